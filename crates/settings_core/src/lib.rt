@@ -1,0 +1,9 @@
+// The settings of a print. What goes in are pairs of a key and a value, from the command line or a
+// settings file; what comes out is every setting in whole units, as `settings_of` in `specs/` says.
+#![tactic(auto)]
+
+mod pairs;
+mod resolved;
+
+pub use pairs::{Given, Pair, Scope};
+pub use resolved::{ExtruderSettings, MeshSettings, Seam, Settings};
