@@ -1,1 +1,5 @@
 pub mod Causes
+pub mod Whole
+pub mod Decimal
+pub mod Leading
+pub mod Parts

@@ -3,13 +3,17 @@
 // comes out is exactly what the definitions in `specs/` say.
 #![tactic(auto)]
 
+mod decimal;
 mod faults;
 mod items;
 mod kept;
 mod points;
 mod shapes;
+#[cfg(test)]
+mod tests;
 mod text;
 
+pub use decimal::read_decimal;
 pub use faults::{BadNumber, Failed, NoMemory};
 pub use items::Items;
 pub use kept::{Kept, Numbered};

@@ -1,0 +1,4 @@
+pub mod Rounding
+pub mod Leadings
+pub mod Scaling
+pub mod Values
