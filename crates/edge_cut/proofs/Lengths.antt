@@ -1,8 +1,6 @@
 -- Pieces have a length, since no two neighbouring stops are one point.
-use Rattle.std.proofs.Common.{◌≡◌, ◌≤◌, ℕ, zero, suc, ℤ, ◌&&◌, ◌||◌, Bool, true, false, not, cond, nat_lt, List, [], ◌∷◌, ◌++◌, length, filter, Result, Ok, Err, arith, refl, subst, ap, sym, ◌∙◌}
-use Rattle.std.specs.Prelude.{int_lt, All}
-use Rattle.std.specs.List.{AllPass}
-use Rattle.std.specs.Ordering.{int_eq}
+use Rattle.std.proofs.Common.{◌≡◌, ℕ, zero, suc, Bool, true, false, not, cond, nat_lt, List, [], ◌∷◌, length, Result, Ok, Err, arith, refl, subst, ap, sym}
+use Rattle.std.specs.Prelude.{All}
 use Rattle.std.proofs.lemmas.Int.{ints}
 use Rattle.std.proofs.lemmas.List.Elements.{All-nil, All-cons, All-append}
 use Rattle.slice_base.specs.declared.points.Pt.{Pt}
