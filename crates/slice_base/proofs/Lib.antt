@@ -2,3 +2,4 @@ pub mod Rounding
 pub mod Leadings
 pub mod Scaling
 pub mod Values
+pub mod Roots

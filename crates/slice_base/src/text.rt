@@ -1,6 +1,7 @@
 // Texts: names, codes and words, as bytes.
 
-ghost use Rattle.std.specs.Prelude.{◌≡◌, IfOk};
+ghost use Rattle.std.specs.Prelude.{◌≡◌, ◌↔◌, IfOk, IsSome, IfSome};
+ghost use Rattle.std.specs.Str.{IsUtf8};
 
 use crate::faults::NoMemory;
 use std::alloc::Global;
@@ -41,6 +42,14 @@ impl Text {
         ensures { result.now ≡ self.now }
     {
         self.items.as_slice()
+    }
+
+    /// The text as a `str`, which it is exactly where its bytes are UTF-8.
+    pub fn as_str(&self) -> Option<&str>
+        ensures valid { IsSome result ↔ IsUtf8 self.now }
+        ensures bytes { IfSome result (λ s. s.now ≡ self.now) }
+    {
+        str::from_utf8(self.bytes()).ok()
     }
 
     pub fn copy(&self, alloc: Global) -> Result<Text, NoMemory>
