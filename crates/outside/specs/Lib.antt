@@ -1,5 +1,6 @@
 pub mod Files
+pub mod Store
 pub mod Holding
+pub mod Output
+pub mod Told
 pub mod Memory
-pub mod Shelves
-pub mod Sinks

@@ -3,7 +3,7 @@
 ghost use Rattle.std.specs.Prelude.{◌≡◌, ◌≤◌, List, ℕ, option_map, option_copied};
 ghost use Rattle.slice_base.specs.Causes.{Rose, counted};
 ghost use Rattle.outside.specs.Files.{file_of};
-ghost use Rattle.outside.specs.Memory.{told_files};
+ghost use Rattle.outside.specs.Told.{told_files};
 
 use crate::shelves::{ReadNo, Shelf};
 use slice_base::Text;
@@ -34,13 +34,12 @@ fn find<'a>(files: &'a [(Text, Vec<u8>)], name: &[u8]) -> Option<&'a [u8]>
 }
 
 impl MemShelf {
-    ghost use Rattle.outside.specs.Shelves.{IsNewShelf, files_in, reads_of, faults_of};
+    ghost use Rattle.outside.specs.Memory.{store_of, new_store};
 
     /// A shelf with these files, of which the first entry of a name counts. `failing` has the reads
     /// that are to fail, counted from 1. Takes no memory.
     pub fn of(files: Vec<(Text, Vec<u8>)>, failing: Vec<u32>) -> MemShelf
-        ensures new { IsNewShelf result }
-        ensures files { files_in result ≡ told_files files.items }
+        ensures { store_of result ≡ new_store files.items }
     {
         MemShelf {
             files,
@@ -54,7 +53,7 @@ impl MemShelf {
 
     /// How many reads there were.
     pub fn reads(&self) -> u64
-        ensures { result ≡ reads_of self.now }
+        ensures { result ≡ (store_of self.now).reads }
     {
         self.reads
     }
@@ -81,16 +80,9 @@ impl MemShelf {
 }
 
 impl Shelf for MemShelf {
-    ghost use Rattle.std.specs.Prelude.{Some};
-    ghost use Rattle.outside.specs.Shelves.{files_in, last_failed_in, reads_of, faults_of};
+    ghost use Rattle.outside.specs.Memory.{store_of};
 
-    ghost files = { λ s. Some (files_in s) };
-
-    ghost reads = { λ s. reads_of s };
-
-    ghost last_failed = { λ s. last_failed_in s };
-
-    ghost faults = { λ s. faults_of s };
+    ghost store = { store_of };
 
     fn read(&mut self, alloc: Global, name: &str, limit: usize) -> Result<Vec<u8>, ReadNo> {
         self.reads = self.reads.saturating_add(1);

@@ -1,6 +1,6 @@
 // An output in memory, for tests.
 
-ghost use Rattle.std.specs.Prelude.{◌≡◌, ◌<◌, ◌≤◌, IfOk, vec_capacity, option_copied};
+ghost use Rattle.std.specs.Prelude.{◌≡◌, ◌<◌, ◌≤◌, Some, IfOk, vec_capacity, option_copied};
 ghost use Rattle.slice_base.specs.Causes.{Rose, counted};
 
 use crate::sinks::Sink;
@@ -27,7 +27,7 @@ pub struct MemSink {
 }
 
 impl MemSink {
-    ghost use Rattle.outside.specs.Sinks.{IsNewSink, held_in, name_in, begins_of, ends_of, held_at_end_in};
+    ghost use Rattle.outside.specs.Memory.{output_of, new_output};
 
     /// A sink with room for that many bytes, of which one put takes at most `most`. `failing` has the
     /// calls that are to fail, counted from 1 over `begin`, `put` and `end`.
@@ -38,7 +38,7 @@ impl MemSink {
         failing: Vec<u32>,
     ) -> Result<MemSink, NoMemory>
         requires { 0 < most }
-        ensures { IfOk result IsNewSink }
+        ensures { IfOk result (λ sink. output_of sink ≡ new_output) }
     {
         Ok(MemSink {
             bytes: Vec::with_capacity(alloc, room)?,
@@ -57,35 +57,35 @@ impl MemSink {
 
     /// The bytes that it holds.
     pub fn bytes(&self) -> &[u8]
-        ensures { result.now ≡ held_in self.now }
+        ensures { Some result.now ≡ (output_of self.now).content }
     {
         self.bytes.as_slice()
     }
 
     /// The name that its last `begin` was handed.
     pub fn name(&self) -> Option<&Text>
-        ensures { option_copied result ≡ name_in self.now }
+        ensures { option_copied result ≡ (output_of self.now).name }
     {
         self.name.as_ref()
     }
 
     /// How many calls of `begin` there were.
     pub fn begins(&self) -> u64
-        ensures { result ≡ begins_of self.now }
+        ensures { result ≡ (output_of self.now).begins }
     {
         self.begins
     }
 
     /// How many calls of `end` there were.
     pub fn ends(&self) -> u64
-        ensures { result ≡ ends_of self.now }
+        ensures { result ≡ (output_of self.now).ends }
     {
         self.ends
     }
 
     /// How many bytes it held at its last `end` that succeeded.
     pub fn held_at_end(&self) -> usize
-        ensures { result ≡ held_at_end_in self.now }
+        ensures { result ≡ (output_of self.now).held_at_end }
     {
         self.held_at_end
     }
@@ -109,26 +109,13 @@ impl MemSink {
 }
 
 impl Sink for MemSink {
-    ghost use Rattle.std.specs.Prelude.{Some};
-    ghost use Rattle.outside.specs.Sinks.{held_in, name_in, begun_in, begins_of, ends_of, held_at_end_in, faults_of};
+    ghost use Rattle.outside.specs.Memory.{output_of};
 
-    ghost content = { λ s. Some (held_in s) };
+    ghost output = { output_of };
 
-    ghost name = { λ s. name_in s };
-
-    ghost begun = { λ s. begun_in s };
-
-    ghost begins = { λ s. begins_of s };
-
-    ghost ends = { λ s. ends_of s };
-
-    ghost held_at_end = { λ s. held_at_end_in s };
-
-    ghost faults = { λ s. faults_of s };
-
-    fn begin(&mut self, called: Text) -> Result<(), Failed> {
+    fn begin(&mut self, name: Text) -> Result<(), Failed> {
         self.begins = self.begins.saturating_add(1);
-        self.name = Some(called);
+        self.name = Some(name);
         self.begun = false;
         if self.is_failing() {
             return Err(self.fail());

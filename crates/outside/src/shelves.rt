@@ -1,9 +1,10 @@
 // Where files are read from.
 
-ghost use Rattle.std.specs.Prelude.{◌≡◌, ◌≤◌, ℕ, List, Option, length, IfOk, IsErrOf};
+ghost use Rattle.std.specs.Prelude.{◌≡◌, ◌≤◌, length, IfOk, IsErrOf};
 ghost use Rattle.slice_base.specs.Causes.{Rose, counted};
 ghost use Rattle.outside.specs.declared.shelves.ReadNo.TheVariants.{NoMemory};
 ghost use Rattle.outside.specs.Files.{IsFile, IsTooLong, last_failed_of};
+ghost use Rattle.outside.specs.Store.{Store};
 
 use std::alloc::{AllocError, AllocFailed, Global};
 
@@ -45,30 +46,21 @@ impl<T: Drop> From<AllocFailed<T>> for ReadNo {
 /// A place from which whole files are read by name. Its counts never fall; one that would pass the
 /// greatest `u64` stays there.
 pub trait Shelf {
-    /// The files by name, where it tells them. The first entry of a name is its file.
-    ghost files: { Self → Option (List (List ℕ × List ℕ)) };
-
-    /// How many reads there were.
-    ghost reads: { Self → ℕ };
-
-    /// The name of the last read that failed, where one did.
-    ghost last_failed: { Self → Option (List ℕ) };
-
-    /// How often it failed.
-    ghost faults: { Self → ℕ };
+    /// What is known of it.
+    ghost store: { Self → Store };
 
     /// Reads the whole file of that name, if it has at most `limit` bytes. Changes no file.
     fn read(&mut self, alloc: Global, name: &str, limit: usize) -> Result<Vec<u8>, ReadNo>
-        ensures given { IfOk result (λ bytes. IsFile (files self.old) name.now bytes.items) }
+        ensures given { IfOk result (λ bytes. IsFile (store self.old).files name.now bytes.items) }
         ensures within { IfOk result (λ bytes. length bytes.items ≤ limit) }
-        ensures too_long { IsErrOf result ReadNo.TooLong → IsTooLong (files self.old) name.now limit }
-        ensures cause { IsErrOf result ReadNo.Failed → Rose (faults self.old) (faults self.new) }
-        ensures later { faults self.old ≤ faults self.new }
-        ensures count { reads self.new ≡ counted (reads self.old) }
-        ensures last { last_failed self.new ≡ last_failed_of result name.now (last_failed self.old) }
-        ensures files { files self.new ≡ files self.old };
+        ensures too_long { IsErrOf result ReadNo.TooLong → IsTooLong (store self.old).files name.now limit }
+        ensures cause { IsErrOf result ReadNo.Failed → Rose (store self.old).faults (store self.new).faults }
+        ensures later { (store self.old).faults ≤ (store self.new).faults }
+        ensures reads { (store self.new).reads ≡ counted (store self.old).reads }
+        ensures last_failed { (store self.new).last_failed ≡ last_failed_of result name.now (store self.old).last_failed }
+        ensures files { (store self.new).files ≡ (store self.old).files };
 
     /// How often it failed.
     fn faults(&self) -> u64
-        ensures { result ≡ faults self.now };
+        ensures { result ≡ (store self.now).faults };
 }
