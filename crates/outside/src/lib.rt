@@ -3,12 +3,20 @@
 // its count of faults.
 #![tactic(auto)]
 
+mod disk_files;
+mod disk_output;
 mod mem_files;
 mod mem_output;
 mod shelves;
 mod sinks;
+mod std_output;
+#[cfg(test)]
+mod tests;
 
+pub use disk_files::DirShelf;
+pub use disk_output::FileSink;
 pub use mem_files::MemShelf;
 pub use mem_output::MemSink;
 pub use shelves::{ReadNo, Shelf};
 pub use sinks::{Sink, put_all};
+pub use std_output::OutSink;
