@@ -1,0 +1,49 @@
+use Rattle.std.proofs.Common.{◌≡◌, ◌≤◌, ◌<◌, ◌+◌, ◌∷◌, [], List, ℕ, length, drop, map, refl, arith, sym, ap, ◌∙◌, rules}
+use Rattle.stl_text.specs.declared.lines.Line.{Line}
+use Rattle.stl_text.specs.Words.{lines_of, words_of}
+use Rattle.stl_text.specs.Lines.{line_of, read_lines}
+use Rattle.stl_text.specs.Steps.{step_of}
+use Rattle.stl_text.proofs.FaultLemmas.{Stands, cut, stands_next, stands_whole, fault_here, text_at_end, fault_at_end, all_read}
+use Rattle.stl_text.proofs.reader.gather.Goals as goal
+
+-- the lines that are left, where one is cut off
+cut_line : (left : List Line) (rest line after : List ℕ) (l : Line) → left ≡ read_lines rest → lines_of rest ≡ line ∷ lines_of after → l ≡ line_of (words_of line) → left ≡ l ∷ read_lines after
+cut_line left rest line after l e cuts is = e ∙ (ap (map (λ (w : List ℕ). line_of (words_of w))) cuts ∙ ap (λ (x : Line). x ∷ read_lines after) (sym is))
+
+pub returns-in-Bad-clause-err : goal.returns-in-Bad-clause-err
+returns-in-Bad-clause-err c =
+    let bytes : List ℕ = c.args.bytes.now in
+    let left = cut_line (drop c.lines.number (read_lines bytes)) c.lines.rest.now c.split_line.result.0.now c.split_line.result.1.now c.read_line.result c.lines.invariant.left c.split_line.ensures.lines c.read_line.ensures in
+    fault_here bytes c.lines.number c.lines.place c.lines.gathered c.read_line.result (read_lines c.split_line.result.1.now) c.lines.invariant.stands left (sym c.advance.ensures ∙ c.in-Bad.is)
+
+pub lines-preserved-in-To : goal.lines-preserved-in-To
+lines-preserved-in-To c =
+    let bytes : List ℕ = c.args.bytes.now in
+    let left = cut_line (drop c.lines.number (read_lines bytes)) c.lines.rest.now c.split_line.result.0.now c.split_line.result.1.now c.read_line.result c.lines.invariant.left c.split_line.ensures.lines c.read_line.ensures in
+    record {
+      stands = stands_next bytes c.lines.number c.lines.place c.lines.gathered c.read_line.result (read_lines c.split_line.result.1.now) c.lines.invariant.stands left c.in-To.next (sym c.advance.ensures ∙ c.in-To.is);
+      left = (cut c.lines.number (read_lines bytes) c.read_line.result (read_lines c.split_line.result.1.now) left).rest;
+      counted = omega (arith, c.lines.invariant.counted, c.split_line.ensures.shorter);
+    }
+
+pub lines-preserved : goal.lines-preserved
+lines-preserved c =
+    let bytes : List ℕ = c.args.bytes.now in
+    let left = cut_line (drop c.lines.number (read_lines bytes)) c.lines.rest.now c.split_line.result.0.now c.split_line.result.1.now c.read_line.result c.lines.invariant.left c.split_line.ensures.lines c.read_line.ensures in
+    record {
+      stands = stands_whole bytes c.lines.number c.lines.place c.lines.gathered c.read_line.result (read_lines c.split_line.result.1.now) c.lines.invariant.stands left c.in-Whole.facet c.take.new.self (sym c.advance.ensures ∙ c.in-Whole.is) c.take.ensures.gathers;
+      left = (cut c.lines.number (read_lines bytes) c.read_line.result (read_lines c.split_line.result.1.now) left).rest;
+      counted = omega (arith, c.lines.invariant.counted, c.split_line.ensures.shorter);
+    }
+
+pub returns-then-may_end-clause-ok : goal.returns-then-may_end-clause-ok
+returns-then-may_end-clause-ok c =
+    let bytes : List ℕ = c.args.bytes.now in
+    let s = c.lines.invariant.stands in
+    (s.facets, text_at_end bytes c.lines.number c.lines.place c.lines.gathered s (all_read bytes c.lines.rest.now c.lines.number c.lines.invariant.left (search rules)) (sym c.may_end.ensures ∙ c.if-may_end.true), s.gathers)
+
+pub returns-else-may_end-clause-err : goal.returns-else-may_end-clause-err
+returns-else-may_end-clause-err c =
+    let bytes : List ℕ = c.args.bytes.now in
+    let s = c.lines.invariant.stands in
+    fault_at_end bytes c.lines.number c.lines.place c.lines.gathered s (all_read bytes c.lines.rest.now c.lines.number c.lines.invariant.left (search rules)) (sym c.may_end.ensures ∙ c.if-may_end.false)

@@ -1,0 +1,13 @@
+-- How far the first line, the blanks and the first word of a text reach.
+use Rattle.std.specs.Prelude.{ℕ, ◌==◌, not, List}
+use Rattle.std.specs.List.{prefix_len}
+use Rattle.stl_text.specs.Words.{is_blank}
+
+abbrev pub line_len : List ℕ → ℕ
+line_len bytes = prefix_len (λ b. not (b == 10)) bytes
+
+abbrev pub blank_len : List ℕ → ℕ
+blank_len bytes = prefix_len is_blank bytes
+
+abbrev pub word_len : List ℕ → ℕ
+word_len bytes = prefix_len (λ b. not (is_blank b)) bytes

@@ -1,0 +1,56 @@
+-- What a line of an STL text says.
+use Rattle.std.specs.Prelude.{ℕ, ℤ, Bool, true, false, List, [], ◌∷◌, map, Option, Some, None, codes, nat_le, unsigned_abs, if◌then◌else◌}
+use Rattle.slice_base.specs.declared.points.Pt3.{Pt3}
+use Rattle.slice_base.specs.Decimal.{decimal_of}
+use Rattle.stl_text.specs.declared.lines.TheConstants.{MOST_COORDINATE}
+use Rattle.stl_text.specs.declared.lines.Line.{Line}
+use Rattle.stl_text.specs.declared.lines.Line.TheVariants.{Blank, Solid, Facet, OuterLoop, Vertex, EndLoop, EndFacet, EndSolid, Other}
+use Rattle.stl_text.specs.Words.{lines_of, words_of, is_keyword}
+
+-- a number of µm that lies in the range of coordinates
+abbrev pub in_range : Option ℤ → Option ℤ
+in_range None = None
+in_range (Some v) = if nat_le (unsigned_abs v) MOST_COORDINATE then Some v else None
+
+-- a decimal in mm, as whole µm
+abbrev pub coordinate_of : List ℕ → Option ℤ
+coordinate_of word = in_range (decimal_of word 3)
+
+abbrev pub corner_at : Option ℤ → Option ℤ → Option ℤ → Option Pt3
+corner_at (Some x) (Some y) (Some z) = Some (record { x = x; y = y; z = z })
+corner_at x y z = None
+
+-- exactly three coordinates
+abbrev pub corner_of : List (List ℕ) → Option Pt3
+corner_of (x ∷ y ∷ z ∷ []) = corner_at (coordinate_of x) (coordinate_of y) (coordinate_of z)
+corner_of words = None
+
+abbrev pub vertex_of : Option Pt3 → Line
+vertex_of None = Other
+vertex_of (Some corner) = Vertex corner
+
+-- exactly the word `loop`
+abbrev pub is_loop : List (List ℕ) → Bool
+is_loop (word ∷ []) = is_keyword word (codes "loop")
+is_loop words = false
+
+abbrev pub no_words : List (List ℕ) → Bool
+no_words [] = true
+no_words (word ∷ words) = false
+
+-- what the words of a line say
+abbrev pub line_of : List (List ℕ) → Line
+line_of [] = Blank
+line_of (word ∷ words) =
+    if is_keyword word (codes "vertex") then vertex_of (corner_of words)
+    else (if is_keyword word (codes "facet") then Facet
+    else (if is_keyword word (codes "outer") then (if is_loop words then OuterLoop else Other)
+    else (if is_keyword word (codes "endloop") then (if no_words words then EndLoop else Other)
+    else (if is_keyword word (codes "endfacet") then (if no_words words then EndFacet else Other)
+    else (if is_keyword word (codes "solid") then Solid
+    else (if is_keyword word (codes "endsolid") then EndSolid
+    else Other))))))
+
+-- all lines of a text
+abbrev pub read_lines : List ℕ → List Line
+read_lines bytes = map (λ line. line_of (words_of line)) (lines_of bytes)

@@ -1,0 +1,17 @@
+// Reads ASCII STL. What goes in are the bytes of a file; what comes out are the triangles that the
+// grammar in `specs/Mesh.antt` gives them, or the number of the first line at fault.
+#![tactic(auto)]
+
+mod faults;
+mod gathered;
+mod lines;
+mod places;
+mod reader;
+#[cfg(test)]
+mod tests;
+mod words;
+
+pub use faults::StlFault;
+pub use gathered::MOST_TRIANGLES;
+pub use lines::MOST_COORDINATE;
+pub use reader::read_stl;

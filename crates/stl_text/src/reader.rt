@@ -1,0 +1,88 @@
+// Reads a whole text, line by line.
+
+ghost use Rattle.std.specs.Prelude.{◌≡◌, ◌≤◌, ◌↔◌, ℕ, [], List, All, Err, length, IfOk, IfErr, OnOk, MatchResult};
+ghost use Rattle.slice_base.specs.declared.points.Tri.{Tri};
+ghost use Rattle.stl_text.specs.Mesh.{HasFacets, IsFault, IsMesh, HasTooMany, IsNear};
+ghost use Rattle.stl_text.specs.Gathers.{Gathers, IsAnswer};
+
+use crate::faults::StlFault;
+use crate::gathered::{Gathered, MOST_TRIANGLES};
+use crate::lines::read_line;
+use crate::places::{Place, Step, advance, may_end};
+use crate::words::split_line;
+use slice_base::Tri;
+use std::alloc::Global;
+
+// Reads all lines; the error is the number of the first line at fault.
+fn gather(bytes: &[u8], gathered: &mut Gathered) -> Result<(), u32>
+    requires size { length bytes.now ≤ 268435456 }
+    requires empty { Gathers [] gathered.old }
+    ensures ok { OnOk result ((facets : List Tri) × HasFacets bytes.now facets × Gathers facets gathered.new) }
+    ensures err { IfErr result (IsFault bytes.now) }
+{
+    let mut rest = bytes;
+    let mut number: u32 = 0;
+    let mut place = Place::Outside;
+    'lines: while !rest.is_empty() {
+        let (line, after) = split_line(rest);
+        rest = after;
+        number += 1;
+        match advance(place, read_line(line)) {
+            Step::Bad => return Err(number),
+            Step::To(next) => place = next,
+            Step::Whole(facet) => {
+                gathered.take(facet);
+                place = Place::InSolid;
+            }
+        }
+    }
+    if may_end(place) {
+        Ok(())
+    } else {
+        Err(number + 1)
+    }
+}
+
+// The answer to a text whose lines are all gathered.
+fn finish(gathered: Gathered) -> Result<Vec<Tri>, StlFault>
+    ensures { (facets : List Tri) → Gathers facets gathered → IsAnswer facets result }
+{
+    if gathered.facets > MOST_TRIANGLES {
+        return Err(StlFault::TooManyTriangles {
+            count: gathered.facets,
+        });
+    }
+    if gathered.is_short {
+        return Err(StlFault::NoMemory);
+    }
+    Ok(gathered.triangles)
+}
+
+/// The triangles of the facets of an ASCII STL file, in µm from its mm, without those with two equal
+/// corners. Several solids are one mesh.
+///
+/// The format is that of 3D Systems' StereoLithography Interface Specification.
+pub fn read_stl(alloc: Global, bytes: &[u8]) -> Result<Vec<Tri>, StlFault>
+    requires { length bytes.now ≤ 268435456 }
+
+    ensures mesh { IfOk result (λ v. IsMesh bytes.now v.items) }
+    ensures gives { (triangles : List Tri) → IsMesh bytes.now triangles
+        → MatchResult result (λ v. v.items ≡ triangles) (λ e. e ≡ StlFault.NoMemory) }
+    ensures bad_line { (n : ℕ) → (result ≡ Err (StlFault.BadLine n)) ↔ IsFault bytes.now n }
+    ensures too_many { (n : ℕ) → (result ≡ Err (StlFault.TooManyTriangles n)) ↔ HasTooMany bytes.now n }
+    ensures no_memory { result ≡ Err StlFault.NoMemory → (triangles : List Tri) × IsMesh bytes.now triangles }
+
+    // A text has one reading at most, and none where a line is at fault.
+    ensures one_reading { (fs gs : List Tri) → HasFacets bytes.now fs → HasFacets bytes.now gs → fs ≡ gs }
+    ensures no_reading { (n : ℕ) (fs : List Tri) → IsFault bytes.now n → ¬ (HasFacets bytes.now fs) }
+
+    ensures near { IfOk result (λ v. All IsNear v.items) }
+    ensures few { IfOk result (λ v. length v.items ≤ MOST_TRIANGLES) }
+{
+    let room = (bytes.len() / 73).min(MOST_TRIANGLES as usize);
+    let mut gathered = Gathered::new(alloc, room);
+    match gather(bytes, &mut gathered) {
+        Err(line) => Err(StlFault::BadLine { line }),
+        Ok(()) => finish(gathered),
+    }
+}
