@@ -1,15 +1,14 @@
 -- The first line at fault.
-use Rattle.std.proofs.Common.{ℕ, zero, suc, ◌≡◌, ◌<◌, ◌≤◌, ◌+◌, Bool, true, false, List, [], ◌∷◌, ◌++◌, length, take, drop, Option, Some, None, refl, arith, sym, ap, ◌∙◌, subst, ◌⊎◌, inl, inr, add-one}
+use Rattle.std.proofs.Common.{ℕ, zero, suc, ◌≡◌, ◌<◌, ◌≤◌, ◌+◌, true, false, List, [], ◌∷◌, ◌++◌, length, take, drop, Option, Some, None, refl, arith, sym, ap, ◌∙◌, subst, ◌⊎◌, inl, inr, add-one}
 use Rattle.std.proofs.lemmas.List.{take-append-drop, take-take, take_all, length_push, length-drop}
 use Rattle.slice_base.specs.declared.points.Tri.{Tri}
 use Rattle.stl_text.specs.declared.lines.Line.{Line}
 use Rattle.stl_text.specs.declared.places.Place.{Place}
 use Rattle.stl_text.specs.declared.places.Place.TheVariants.{InSolid}
-use Rattle.stl_text.specs.declared.places.Step.{Step}
 use Rattle.stl_text.specs.declared.places.Step.TheVariants.{To, Whole, Bad}
 use Rattle.stl_text.specs.declared.gathered.Gathered.{Gathered}
 use Rattle.stl_text.specs.Lines.{read_lines}
-use Rattle.stl_text.specs.Mesh.{IsText, HasFacets, Begins, IsFault}
+use Rattle.stl_text.specs.Mesh.{HasFacets, Begins, IsFault}
 use Rattle.stl_text.specs.Steps.{step_of, is_end}
 use Rattle.stl_text.specs.Gathers.{Gathers}
 use Rattle.stl_text.proofs.Runs.{Stand, start, stand_after, then_step, run, run-none, run-append, begins_from_run, none_begins, no_text, text_from_run, ran_text}

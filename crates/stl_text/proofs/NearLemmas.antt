@@ -1,5 +1,5 @@
 -- Every corner of a text lies in the range of coordinates.
-use Rattle.std.proofs.Common.{ℕ, ◌≡◌, ◌≤◌, Bool, true, false, cond, List, [], ◌∷◌, get_or, map, Option, Some, None, refl, arith, ℤ, leb, IfSome, rules, codes}
+use Rattle.std.proofs.Common.{ℕ, ◌≡◌, ◌≤◌, Bool, true, false, cond, List, [], ◌∷◌, get_or, Option, Some, None, refl, ℤ, IfSome, rules, codes}
 use Rattle.std.specs.Prelude.{All, filter, unsigned_abs, ⊤, nat_le}
 use Rattle.std.specs.List.{AllByRecursion}
 use Rattle.std.proofs.lemmas.List.Elements.{All-map, All-filter, All-from_recursion, recursion_from_All}
@@ -7,7 +7,7 @@ use Rattle.slice_base.specs.declared.points.Tri.{Tri}
 use Rattle.slice_base.specs.Decimal.{decimal_of}
 use Rattle.stl_text.specs.declared.lines.TheConstants.{MOST_COORDINATE}
 use Rattle.stl_text.specs.declared.lines.Line.{Line}
-use Rattle.stl_text.specs.declared.lines.Line.TheVariants.{Blank, Solid, Facet, OuterLoop, Vertex, EndLoop, EndFacet, EndSolid, Other}
+use Rattle.stl_text.specs.declared.lines.Line.TheVariants.{Solid, Facet, OuterLoop, Vertex, EndLoop, EndFacet, EndSolid, Other}
 use Rattle.stl_text.specs.Words.{lines_of, words_of, is_keyword}
 use Rattle.stl_text.specs.Lines.{in_range, coordinate_of, corner_at, corner_of, vertex_of, is_loop, no_words, line_of, read_lines}
 use Rattle.stl_text.specs.Mesh.{Solids, no_more, left_open, solid, facet, endsolid, has_words, HasFacets, is_proper, triangles_of, IsNearCorner, IsNear}

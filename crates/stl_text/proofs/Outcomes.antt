@@ -1,5 +1,5 @@
 -- What the reader's answers say of the text.
-use Rattle.std.proofs.Common.{ℕ, ◌≡◌, ◌≤◌, ◌<◌, ◌+◌, List, length, Vec, Global, Result, Ok, Err, refl, arith, sym, ap, ◌∙◌, subst, rules}
+use Rattle.std.proofs.Common.{ℕ, ◌≡◌, ◌≤◌, List, length, Vec, Global, Result, Ok, Err, refl, arith, sym, ap, ◌∙◌, subst}
 use Rattle.std.specs.Prelude.{All, IfOk, MatchResult, ◌↔◌}
 use Rattle.std.proofs.lemmas.List.Elements.{All-same}
 use Rattle.std.proofs.lemmas.List.Sums.{length-filter, count_by-le-length}

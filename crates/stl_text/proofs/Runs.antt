@@ -1,13 +1,12 @@
 -- The reader's places against the grammar.
-use Rattle.std.proofs.Common.{ℕ, suc, ◌≡◌, ◌<◌, ◌≤◌, ◌+◌, Bool, true, false, cond, List, [], ◌∷◌, ◌++◌, length, take, drop, Option, Some, None, refl, arith, sym, ap, ◌∙◌, subst, append_assoc, codes}
+use Rattle.std.proofs.Common.{ℕ, ◌≡◌, Bool, true, false, cond, List, [], ◌∷◌, ◌++◌, Option, Some, None, refl, sym, ap, ◌∙◌, subst, append_assoc, codes}
 use Rattle.std.specs.Prelude.{filter}
 use Rattle.std.proofs.lemmas.List.{append-nil}
-use Rattle.std.proofs.lemmas.List.Elements.{filter-append}
 use Rattle.slice_base.specs.Decimal.{decimal_of}
 use Rattle.slice_base.specs.declared.points.Pt3.{Pt3}
 use Rattle.slice_base.specs.declared.points.Tri.{Tri}
 use Rattle.stl_text.specs.declared.lines.Line.{Line}
-use Rattle.stl_text.specs.declared.lines.Line.TheVariants.{Blank, Solid, Facet, OuterLoop, Vertex, EndLoop, EndFacet, EndSolid, Other}
+use Rattle.stl_text.specs.declared.lines.Line.TheVariants.{Blank, Solid, Facet, OuterLoop, Vertex, EndLoop, EndFacet, EndSolid}
 use Rattle.stl_text.specs.declared.places.Place.{Place}
 use Rattle.stl_text.specs.declared.places.Place.TheVariants.{Outside, InSolid, LoopBegins, FirstVertex, SecondVertex, ThirdVertex, LoopEnds, FacetEnds}
 use Rattle.stl_text.specs.declared.places.Step.{Step}

@@ -6,7 +6,7 @@ use Rattle.slice_base.specs.declared.points.Tri.{Tri}
 use Rattle.stl_text.specs.declared.lines.TheConstants.{MOST_COORDINATE}
 use Rattle.stl_text.specs.declared.gathered.TheConstants.{MOST_TRIANGLES}
 use Rattle.stl_text.specs.declared.lines.Line.{Line}
-use Rattle.stl_text.specs.declared.lines.Line.TheVariants.{Blank, Solid, Facet, OuterLoop, Vertex, EndLoop, EndFacet, EndSolid, Other}
+use Rattle.stl_text.specs.declared.lines.Line.TheVariants.{Blank, Solid, Facet, OuterLoop, Vertex, EndLoop, EndFacet, EndSolid}
 use Rattle.stl_text.specs.Lines.{read_lines}
 
 -- the lines of solids with their facets, from outside (false) or inside a solid (true) to the end

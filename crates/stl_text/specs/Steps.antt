@@ -1,7 +1,7 @@
 -- The places that the reader steps through.
 use Rattle.std.specs.Prelude.{Bool, true, false}
 use Rattle.stl_text.specs.declared.lines.Line.{Line}
-use Rattle.stl_text.specs.declared.lines.Line.TheVariants.{Blank, Solid, Facet, OuterLoop, Vertex, EndLoop, EndFacet, EndSolid, Other}
+use Rattle.stl_text.specs.declared.lines.Line.TheVariants.{Blank, Solid, Facet, OuterLoop, Vertex, EndLoop, EndFacet, EndSolid}
 use Rattle.stl_text.specs.declared.places.Place.{Place}
 use Rattle.stl_text.specs.declared.places.Place.TheVariants.{Outside, InSolid, LoopBegins, FirstVertex, SecondVertex, ThirdVertex, LoopEnds, FacetEnds}
 use Rattle.stl_text.specs.declared.places.Step.{Step}

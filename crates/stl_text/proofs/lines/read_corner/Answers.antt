@@ -1,4 +1,4 @@
-use Rattle.std.proofs.Common.{◌≡◌, ◌∷◌, Bool, true, false, List, [], ℕ, None, refl, sym, ap, ◌∙◌}
+use Rattle.std.proofs.Common.{◌≡◌, ◌∷◌, true, false, List, [], ℕ, None, sym, ap, ◌∙◌}
 use Rattle.stl_text.specs.Words.{words_of}
 use Rattle.stl_text.specs.Lines.{coordinate_of, corner_at, corner_of, no_words}
 use Rattle.stl_text.proofs.lines.read_corner.Goals as goal

@@ -1,9 +1,8 @@
-use Rattle.std.proofs.Common.{◌≡◌, ◌≤◌, ◌<◌, ◌+◌, ◌∷◌, [], List, ℕ, length, drop, map, refl, arith, sym, ap, ◌∙◌, rules}
+use Rattle.std.proofs.Common.{◌≡◌, ◌∷◌, List, ℕ, drop, map, arith, sym, ap, ◌∙◌, rules}
 use Rattle.stl_text.specs.declared.lines.Line.{Line}
 use Rattle.stl_text.specs.Words.{lines_of, words_of}
 use Rattle.stl_text.specs.Lines.{line_of, read_lines}
-use Rattle.stl_text.specs.Steps.{step_of}
-use Rattle.stl_text.proofs.FaultLemmas.{Stands, cut, stands_next, stands_whole, fault_here, text_at_end, fault_at_end, all_read}
+use Rattle.stl_text.proofs.FaultLemmas.{cut, stands_next, stands_whole, fault_here, text_at_end, fault_at_end, all_read}
 use Rattle.stl_text.proofs.reader.gather.Goals as goal
 
 -- the lines that are left, where one is cut off

@@ -1,4 +1,4 @@
-use Rattle.std.proofs.Common.{rules, zero, suc, eqb, Bool, true, false, ◌≡◌, ◌<◌, ◌-◌, ◌≤◌, [], ◌∷◌, List, ℕ, length, take, drop, arith, sym, ap, ◌∙◌, subst}
+use Rattle.std.proofs.Common.{rules, zero, suc, eqb, Bool, false, ◌≡◌, ◌<◌, ◌-◌, [], ◌∷◌, List, ℕ, length, take, drop, arith, sym, ap, ◌∙◌}
 use Rattle.std.proofs.lemmas.List.{take_rest, nil_from_length}
 use Rattle.stl_text.specs.Words.{words_of}
 use Rattle.stl_text.specs.Cuts.{blank_len, word_len}
