@@ -1,0 +1,30 @@
+-- One event more, as each worker's own events show it.
+use Rattle.std.proofs.Common.{◌≡◌, ◌≢◌, ℕ, Bool, true, false, cond, Option, Some, None, IfSome, List, [], ◌∷◌, ◌++◌, refl, sym, ap, ◌∙◌, subst, eq-eqb, ne_eqb, eqb}
+use Rattle.std.proofs.lemmas.List.{append-nil}
+use Rattle.ring_core.specs.declared.event.Event.{Event}
+use Rattle.ring_core.specs.declared.event.Event.TheVariants.{Back}
+use Rattle.ring_core.specs.Core.{who, Stage, resting, then_stage, stage_after, own, stage}
+use Rattle.ring_core.specs.Sees.{Ring, grown, Moved}
+use Rattle.ring_core.proofs.Last.{own-append}
+
+stage_after-append : (s : Stage) (xs : List Event) (e : Event) → stage_after s (xs ++ e ∷ []) ≡ then_stage (stage_after s xs) e
+stage_after-append s [] e = refl
+stage_after-append s (x ∷ xs) e = stage_after-append (then_stage s x) xs e
+
+pub own_more : (w : ℕ) (xs : List Event) (e : Event) → who e ≡ w → own w (xs ++ e ∷ []) ≡ own w xs ++ e ∷ []
+own_more w xs e is = own-append w xs (e ∷ []) ∙ ap (λ b. own w xs ++ cond b (e ∷ []) []) (eq-eqb (who e) w is)
+
+pub own_same : (w : ℕ) (xs : List Event) (e : Event) → who e ≢ w → own w (xs ++ e ∷ []) ≡ own w xs
+own_same w xs e ne = own-append w xs (e ∷ []) ∙ (ap (λ b. own w xs ++ cond b (e ∷ []) []) (ne_eqb (who e) w ne) ∙ append-nil (own w xs))
+
+pub moved : {N : Type 0} (w : ℕ) (r s : Ring N) (e : Event) → s ≡ grown r e → who e ≡ w → Moved w r s e
+moved w r s e is of_w = record {
+  grew = is;
+  stage_is = ap (λ x. stage w x.events) is ∙ (ap (λ es. stage_after resting es) (own_more w r.events e of_w) ∙ stage_after-append resting (own w r.events) e);
+  others = λ v ne. ap (λ x. own v x.events) is ∙ own_same v r.events e (λ same. ne (sym same ∙ of_w));
+}
+
+pub back_moved : {N : Type 0} (v r : Ring N) (es : List Event) (w l' : ℕ) (o : Option ℕ) → v ≡ r → es ≡ v.events ++ Back w l' ∷ [] → ((l : ℕ) → o ≡ Some l → l' ≡ l) → IfSome o (λ l. Moved w r (record v { events = es }) (Back w l))
+back_moved v r es w l' None is more same = tt
+back_moved v r es w l' (Some l) is more same =
+    moved w r (record v { events = es }) (Back w l) (ap (λ xs. record v { events = xs }) (more ∙ ap (λ i. v.events ++ Back w i ∷ []) (same l refl)) ∙ ap (λ x. grown x (Back w l)) is) refl
