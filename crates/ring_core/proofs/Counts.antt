@@ -38,7 +38,7 @@ how_many_change : (f g : ℕ → Bool) (x k : ℕ) → x < k → ((i : ℕ) → 
 how_many_change f g x zero lt h = absurd (omega arith)
 how_many_change f g x (suc k) lt h = dite (ℕ_discrete x k)
     (λ e. let a : how_many g k ≡ how_many f k = how_many_same f g k (λ i below. h i (λ same. absurd (omega arith))) in
-        let b : one (f x) ≡ one (f k) = ap (λ i. one (f i)) e in let d : one (g x) ≡ one (g k) = ap (λ i. one (g i)) e in omega arith)
+    let b : one (f x) ≡ one (f k) = ap (λ i. one (f i)) e in let d : one (g x) ≡ one (g k) = ap (λ i. one (g i)) e in omega arith)
     (λ ne. let a = how_many_change f g x k (omega arith) h in let b : one (g k) ≡ one (f k) = ap one (h k (λ same. ne (sym same))) in omega (arith, a, b))
 
 -- what the claims, takes and halts allow, and what is still open

@@ -28,13 +28,16 @@ module _ {C N : Type 0} (name : C → N) (is_at : C → ℕ → Type 0) (fault_c
   pub home_same : (s s' : State) (o : Option C) → s'.holder ≡ s.holder → s'.apart ≡ s.apart → s'.taken ≡ s.taken → ((f : ℕ) → s'.cause ≡ Some (Write f) → s.cause ≡ Some (Write f))
       → IsHome name is_at fault_count planner faults s o → IsHome name is_at fault_count planner faults s' o
   home_same s s' None turn apart taken cause h = subst (λ x. IsSome x) (sym turn) h
-  home_same s s' (Some c) turn apart taken cause h = (turn ∙ h.0, record {
-    named = h.1.named;
-    no_fewer = h.1.no_fewer;
-    fed = λ e. subst (is_at c) (sym taken) (h.1.fed (sym apart ∙ e));
-    apart = λ e. h.1.apart (sym apart ∙ e);
-    write = λ f e. h.1.write f (cause f e);
-  })
+  home_same s s' (Some c) turn apart taken cause h = (
+    turn ∙ h.0,
+    record {
+      named = h.1.named;
+      no_fewer = h.1.no_fewer;
+      fed = λ e. subst (is_at c) (sym taken) (h.1.fed (sym apart ∙ e));
+      apart = λ e. h.1.apart (sym apart ∙ e);
+      write = λ f e. h.1.write f (cause f e);
+    },
+  )
 
   pub home_more : (es es' : List Event) (e : Event) (o : Option C) → es' ≡ es ++ e ∷ [] → IsHome name is_at fault_count planner faults (then_event (reached es) e) o → IsHome name is_at fault_count planner faults (reached es') o
   home_more es es' e o more h = subst (λ s. IsHome name is_at fault_count planner faults s o) (sym (reached_more es es' e more)) h
@@ -66,22 +69,25 @@ module _ {C N : Type 0} (name : C → N) (is_at : C → ℕ → Type 0) (fault_c
   home_back n m es es' w l c run comes more named no_fewer at =
       home_more es es' (Back w l) (Some c) more (refl, waits_back n m (reached es) w l c (sound n m es run) comes named no_fewer at)
 
-  reason_kept : (n m : ℕ) (s : State) (w : ℕ) (k : Cause) (c : C) → Sound n m s → s.holder ≡ Some w → ((f : ℕ) → k ≡ Write f → fault_count c ≡ f) → (f : ℕ) (j : Option Cause) → s.cause ≡ j → first_cause j k ≡ Some (Write f) → fault_count c ≡ f
-  reason_kept n m s w k c o turn reason f None is e = reason f (cc (e))
-  reason_kept n m s w k c o turn reason f (Some j) is e = absurd (not_apart n m s w o turn (o.write f (is ∙ e)))
+  reason_kept : (n m : ℕ) (s : State) (w : ℕ) (k : Cause) (c : C) → Sound n m s → s.holder ≡ Some w → ((f : ℕ) → k ≡ Write f → fault_count c ≡ f) → Rose faults (fault_count c) → (f : ℕ) (j : Option Cause) → s.cause ≡ j → first_cause j k ≡ Some (Write f) → (fault_count c ≡ f) × Rose faults f
+  reason_kept n m s w k c o turn reason rose f None is e = let same = reason f (cc (e)) in (same, subst (Rose faults) same rose)
+  reason_kept n m s w k c o turn reason rose f (Some j) is e = absurd (not_apart n m s w o turn (o.write f (is ∙ e)))
 
   pub home_halt : (n m : ℕ) (es es' : List Event) (w : ℕ) (k : Cause) (c : C) → IsRun n m es → (reached es).holder ≡ Some w → es' ≡ es ++ Halt w k ∷ [] → name c ≡ planner → faults ≤ fault_count c → Rose faults (fault_count c)
       → ((f : ℕ) → k ≡ Write f → fault_count c ≡ f) → IsHome name is_at fault_count planner faults (reached es') (Some c)
   home_halt n m es es' w k c run turn more named no_fewer rose reason =
       let s = reached es in
       let h = held_self s.holder w turn in
-      home_more es es' (Halt w k) (Some c) more (ap (λ b. cond b None s.holder) h, record {
-        named = named;
-        no_fewer = no_fewer;
-        fed = λ e. absurd (cc (ap (λ b. cond b true s.apart) h, e));
-        apart = λ e. rose;
-        write = λ f e. reason_kept n m s w k c (sound n m es run) turn reason f s.cause refl e;
-      })
+      home_more es es' (Halt w k) (Some c) more (
+        ap (λ b. cond b None s.holder) h,
+        record {
+          named = named;
+          no_fewer = no_fewer;
+          fed = λ e. absurd (cc (ap (λ b. cond b true s.apart) h, e));
+          apart = λ e. rose;
+          write = λ f e. reason_kept n m s w k c (sound n m es run) turn reason rose f s.cause refl e;
+        },
+      )
 
   still_kept : (k : Cause) → ((f : ℕ) → k ≢ Write f) → (j : Option Cause) (f : ℕ) → first_cause j k ≡ Some (Write f) → j ≡ Some (Write f)
   still_kept k ne None f e = absurd (ne f (cc e))
@@ -104,6 +110,7 @@ module _ {C N : Type 0} (name : C → N) (is_at : C → ℕ → Type 0) (fault_c
       beside : (b : Bool) → (b ≡ true → b ≡ false) → b ≡ false
       beside true f = f refl
       beside false f = refl
+
       some_cause : (j : Option Cause) → IsSome j → j ≢ None
       some_cause None h e = absurd (cc h)
       some_cause (Some i) h e = absurd (cc e)

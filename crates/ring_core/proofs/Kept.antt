@@ -88,8 +88,9 @@ keeps_take plan_of n m es es' room room' c t h k slots slots' w kept comes more 
     let some : 0 < m = kept.some in
     let none : (b : Bool) → (reached es).placed (t + 8 * m) ≡ b → (reached es).placed (t + 8 * m) ≡ false =
     λ b. elim b as (λ v. (reached es).placed (t + 8 * m) ≡ v → (reached es).placed (t + 8 * m) ≡ false) [
-      true ↦ λ e. (let q = o.placed (t + 8 * m) e in let r : t + 8 * m < (reached es).claimed = q.1 in absurd (omega arith))
-    | false ↦ λ e. e ] in
+      | true ↦ λ e. (let q = o.placed (t + 8 * m) e in let r : t + 8 * m < (reached es).claimed = q.1 in absurd (omega arith))
+      | false ↦ λ e. e
+    ] in
     keeps_more plan_of n m es es' room room' c t c (t + 1) h (Some w) k k slots slots' (Take w t) kept comes more larger len
     (record {
       claimed_is = s.claimed_is;

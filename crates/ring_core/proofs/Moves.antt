@@ -3,9 +3,10 @@ use Rattle.std.proofs.Common.{◌≡◌, ◌≢◌, ℕ, Bool, true, false, cond
 use Rattle.std.proofs.lemmas.List.{append-nil}
 use Rattle.ring_core.specs.declared.event.Event.{Event}
 use Rattle.ring_core.specs.declared.event.Event.TheVariants.{Back}
-use Rattle.ring_core.specs.Core.{who, Stage, resting, then_stage, stage_after, own, stage}
+use Rattle.ring_core.specs.Core.{who, Stage, resting, then_stage, stage_after, own, stage, then_event, reached}
 use Rattle.ring_core.specs.Sees.{Ring, grown, Moved}
 use Rattle.ring_core.proofs.Last.{own-append}
+use Rattle.ring_core.proofs.Kept.{reached_more}
 
 stage_after-append : (s : Stage) (xs : List Event) (e : Event) → stage_after s (xs ++ e ∷ []) ≡ then_stage (stage_after s xs) e
 stage_after-append s [] e = refl
@@ -28,3 +29,11 @@ pub back_moved : {N : Type 0} (v r : Ring N) (es : List Event) (w l' : ℕ) (o :
 back_moved v r es w l' None is more same = tt
 back_moved v r es w l' (Some l) is more same =
     moved w r (record v { events = es }) (Back w l) (ap (λ xs. record v { events = xs }) (more ∙ ap (λ i. v.events ++ Back w i ∷ []) (same l refl)) ∙ ap (λ x. grown x (Back w l)) is) refl
+
+-- the state that the grown history reaches
+pub reached_moved : {N : Type 0} (w : ℕ) (r s : Ring N) (e : Event) → Moved w r s e → reached s.events ≡ then_event (reached r.events) e
+reached_moved w r s e m = reached_more r.events s.events e (ap (λ x. x.events) m.grew)
+
+-- another worker's stage stays
+pub others_stay : {N : Type 0} (w v : ℕ) (r s : Ring N) (e : Event) → Moved w r s e → v ≢ w → stage v s.events ≡ stage v r.events
+others_stay w v r s e m ne = ap (λ es. stage_after resting es) (m.others v ne)

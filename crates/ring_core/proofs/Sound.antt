@@ -46,14 +46,16 @@ sound_claim n m s w l o (lt, calm, more, near, idle, is) = record {
   ahead = omega arith;
   placed = λ k h. let p = o.placed k h in (p.0, let q = p.1 in omega arith);
   work = λ v k h. elim (put_cases s.work w (Some l) v (Some k) h) [
-    inl p ↦ let e : s.claimed ≡ k = cc (p.1, is) in fresh v k p.0 e
-  | inr p ↦ let q = o.work v k p.1 in (q.0, q.1, let r = q.2 in omega arith, q.3) ];
+    | inl p ↦ let e : s.claimed ≡ k = cc (p.1, is) in fresh v k p.0 e
+    | inr p ↦ let q = o.work v k p.1 in (q.0, q.1, let r = q.2 in omega arith, q.3)
+  ];
   one = λ u v k h i. elim (put_cases s.work w (Some l) u (Some k) h) [
-    inl p ↦ elim (put_cases s.work w (Some l) v (Some k) i) [ inl q ↦ p.0 ∙ sym q.0 | inr q ↦ absurd (beyond v k q.1 (cc (p.1, is))) ]
-  | inr p ↦ elim (put_cases s.work w (Some l) v (Some k) i) [ inl q ↦ absurd (beyond u k p.1 (cc (q.1, is))) | inr q ↦ o.one u v k p.1 q.1 ] ];
+    | inl p ↦ elim (put_cases s.work w (Some l) v (Some k) i) [ inl q ↦ p.0 ∙ sym q.0 | inr q ↦ absurd (beyond v k q.1 (cc (p.1, is))) ]
+    | inr p ↦ elim (put_cases s.work w (Some l) v (Some k) i) [ inl q ↦ absurd (beyond u k p.1 (cc (q.1, is))) | inr q ↦ o.one u v k p.1 q.1 ]
+  ];
   there = λ k low high h. dite (ℕ_discrete k s.claimed)
-  (λ e. (w, put-same s.work w (Some l) w refl ∙ ap (λ i. Some i) (is ∙ sym e)))
-  (λ ne. let x = o.there k low (omega arith) h in (x.0, put-other s.work w (Some l) x.0 (λ e. absurd (cc (subst (λ v. s.work v ≡ Some k) e x.1, idle))) ∙ x.1));
+      (λ e. (w, put-same s.work w (Some l) w refl ∙ ap (λ i. Some i) (is ∙ sym e)))
+      (λ ne. let x = o.there k low (omega arith) h in (x.0, put-other s.work w (Some l) x.0 (λ e. absurd (cc (subst (λ v. s.work v ≡ Some k) e x.1, idle))) ∙ x.1));
   turn = o.turn;
   apart = o.apart;
   write = o.write;
@@ -61,6 +63,7 @@ sound_claim n m s w l o (lt, calm, more, near, idle, is) = record {
   where
     beyond : (v k : ℕ) → s.work v ≡ Some k → s.claimed ≡ k → ⊥
     beyond v k h e = let q = o.work v k h in let r : k < s.claimed = q.2 in omega arith
+
     fresh : (v k : ℕ) → v ≡ w → s.claimed ≡ k → (v < m) × (s.taken ≤ k) × (k < s.claimed + 1) × (s.placed k ≡ false)
     fresh v k same e =
         let f = not_placed n m s o (s.placed s.claimed) refl in
@@ -73,17 +76,21 @@ sound_place n m s w l o (lt, has) = record {
   claimed = o.claimed;
   ahead = o.ahead;
   placed = λ k h. elim (put_cases s.placed l true k true h) [
-    inl p ↦ let q = o.work w l has in let a : s.taken ≤ l = q.1 in let b : l < s.claimed = q.2 in let e = p.0 in (omega arith, omega arith)
-  | inr p ↦ o.placed k p.1 ];
+    | inl p ↦ let q = o.work w l has in let a : s.taken ≤ l = q.1 in let b : l < s.claimed = q.2 in let e = p.0 in (omega arith, omega arith)
+    | inr p ↦ o.placed k p.1
+  ];
   work = λ v k h. elim (put_cases s.work w None v (Some k) h) [
-    inl p ↦ absurd (cc (p.1))
-  | inr p ↦ let q = o.work v k p.1 in (q.0, q.1, q.2, put-other s.placed l true k (λ e. p.0 (o.one v w l (p.1 ∙ ap (λ i. Some i) e) has)) ∙ q.3) ];
+    | inl p ↦ absurd (cc (p.1))
+    | inr p ↦ let q = o.work v k p.1 in (q.0, q.1, q.2, put-other s.placed l true k (λ e. p.0 (o.one v w l (p.1 ∙ ap (λ i. Some i) e) has)) ∙ q.3)
+  ];
   one = λ u v k h i. elim (put_cases s.work w None u (Some k) h) [
-    inl p ↦ absurd (cc (p.1))
-  | inr p ↦ elim (put_cases s.work w None v (Some k) i) [ inl q ↦ absurd (cc (q.1)) | inr q ↦ o.one u v k p.1 q.1 ] ];
+    | inl p ↦ absurd (cc (p.1))
+    | inr p ↦ elim (put_cases s.work w None v (Some k) i) [ inl q ↦ absurd (cc (q.1)) | inr q ↦ o.one u v k p.1 q.1 ]
+  ];
   there = λ k low high h. elim (put_cases s.placed l true k false h) [
-    inl p ↦ absurd (cc (p.1))
-  | inr p ↦ let x = o.there k low high p.1 in (x.0, put-other s.work w None x.0 (λ e. p.0 (cc (subst (λ v. s.work v ≡ Some k) e x.1, has))) ∙ x.1) ];
+    | inl p ↦ absurd (cc (p.1))
+    | inr p ↦ let x = o.there k low high p.1 in (x.0, put-other s.work w None x.0 (λ e. p.0 (cc (subst (λ v. s.work v ≡ Some k) e x.1, has))) ∙ x.1)
+  ];
   turn = o.turn;
   apart = o.apart;
   write = o.write;
@@ -95,13 +102,15 @@ sound_take n m s w l o (lt, calm, nobody, is, there) = record {
   claimed = o.claimed;
   ahead = let h = o.ahead in omega arith;
   placed = λ k h. elim (put_cases s.placed l false k true h) [
-    inl p ↦ absurd (cc (p.1))
-  | inr p ↦ let q = o.placed k p.1 in let a : s.taken ≤ k = q.0 in let ne = p.0 in (omega arith, q.1) ];
+    | inl p ↦ absurd (cc (p.1))
+    | inr p ↦ let q = o.placed k p.1 in let a : s.taken ≤ k = q.0 in let ne = p.0 in (omega arith, q.1)
+  ];
   work = λ v k h. let q = o.work v k h in let ne = other k q.3 in let a : s.taken ≤ k = q.1 in (q.0, omega arith, q.2, put-other s.placed l false k ne ∙ q.3);
   one = o.one;
   there = λ k low high h. elim (put_cases s.placed l false k false h) [
-    inl p ↦ let e = p.0 in absurd (omega arith)
-  | inr p ↦ o.there k (omega arith) high p.1 ];
+    | inl p ↦ let e = p.0 in absurd (omega arith)
+    | inr p ↦ o.there k (omega arith) high p.1
+  ];
   turn = λ h e. let same : w ≡ h = cc e in (omega arith, omega arith);
   apart = λ e. absurd (kept (s.cause) refl (o.apart e).1);
   write = o.write;
@@ -109,6 +118,7 @@ sound_take n m s w l o (lt, calm, nobody, is, there) = record {
   where
     other : (k : ℕ) → s.placed k ≡ false → k ≢ l
     other k h e = clash (s.placed l) there (subst (λ i. s.placed i ≡ false) e h)
+
     kept : (c : Option Cause) → s.cause ≡ c → IsSome c → ⊥
     kept None e h = absurd (cc h)
     kept (Some k) e h = cc (e, calm)

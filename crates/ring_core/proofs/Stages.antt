@@ -27,7 +27,7 @@ tells_own n m s w st (Place v l) c t is = record { work = sym (put-same s.work v
 tells_own n m s w st (Take v l) c t is = record {
   work = t.work;
   turn = let e : l ≡ s.taken + 1 - 1 = let h : l ≡ s.taken = c.3 in omega arith in
-  ap (λ i. Some i) e ∙ sym (ap (λ b. cond b (Some (s.taken + 1 - 1)) None) (eq-eqb v w is));
+      ap (λ i. Some i) e ∙ sym (ap (λ b. cond b (Some (s.taken + 1 - 1)) None) (eq-eqb v w is));
   halted = t.halted;
 }
 tells_own n m s w st (Back v l) c t is = record { work = t.work; turn = refl; halted = t.halted }

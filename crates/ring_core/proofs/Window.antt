@@ -1,5 +1,5 @@
 -- The slots after one is filled or emptied.
-use Rattle.std.proofs.Common.{◌≡◌, ◌≢◌, ℕ, ◌+◌, ◌*◌, ◌/◌, ◌%◌, ◌<◌, ◌≤◌, Bool, true, false, List, length, get_or, set, Option, Some, None, refl, sym, ap, ◌∙◌, subst, arith, get_or-set_other, get_or-set_same}
+use Rattle.std.proofs.Common.{◌≡◌, ◌≢◌, ℕ, ◌+◌, ◌*◌, ◌/◌, ◌%◌, ◌<◌, ◌≤◌, Bool, true, false, List, length, get_or, set, Option, Some, None, refl, sym, ap, ◌∙◌, subst, arith, get_or-set_other, get_or-set_same, length-set}
 use Rattle.std.proofs.Math.Nat.{mul-le-mul_right, add-mod_right, mod-lt}
 use Rattle.std.proofs.lemmas.Nat.{div-add-mod'}
 use mathlib.Core.Logic.{dite}
@@ -50,3 +50,9 @@ slot_full false q p e = absurd (cc e)
 pub slot_none : {Plan : Type 0} (b : Bool) (q : Plan) → slot_of b q ≡ None → b ≡ false
 slot_none true q e = absurd (cc e)
 slot_none false q e = refl
+
+pub set_length : {A : Type 0} (xs ys : List A) (i k : ℕ) (a : A) → ys ≡ set xs i a → length xs ≡ k → length ys ≡ k
+set_length xs ys i k a new len = ap length new ∙ (length-set xs i a ∙ len)
+
+pub set_place : {A : Type 0} (xs ys : List A) (i j : ℕ) (a : A) → ys ≡ set xs i a → i ≡ j → ys ≡ set xs j a
+set_place xs ys i j a new same = new ∙ ap (λ k. set xs k a) same

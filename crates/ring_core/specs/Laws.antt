@@ -3,6 +3,7 @@ use Rattle.std.specs.Prelude.{ℕ, ◌+◌, ◌*◌, ◌-◌, ◌<◌, ◌≤◌
 use mathlib.Core.List.{IsPrefix}
 use Rattle.ring_core.specs.declared.event.Event.{Event}
 use Rattle.ring_core.specs.declared.event.Event.TheVariants.{Take}
+use Rattle.ring_core.specs.declared.event.Cause.TheVariants.{Write}
 use Rattle.ring_core.specs.declared.answers.TakeNo.{TakeNo}
 use Rattle.ring_core.specs.Core.{who, State, held_by, IsRun, reached, Stage, own, stage}
 use Rattle.ring_core.specs.Answers.{TakeRefused}
@@ -33,17 +34,21 @@ pub record Tells (s : State) (w : ℕ) (own_stage : Stage) : Type 0 where
   pub turn : own_stage.turn ≡ turn_of s w
   pub halted : own_stage.halted ≡ s.halted w
 
--- the takes are 0, 1, 2 and so on; no claim goes further ahead of the takes than eight layers a worker; each layer that is claimed and not taken is in one place;
--- one worker at most holds the turn; a worker's own events tell what it is at; the history is short
+-- the takes are 0, 1, 2 and so on; no claim is further ahead of the takes than eight layers a worker; each layer that is claimed and not taken is in one place, and no other layer is anywhere;
+-- one worker at most holds the turn; a worker's own events tell what it is at, and there are no other workers; the consumer stands apart only after a halt, and after a failed write; the history is short
 pub record Orderly (n m : ℕ) (es : List Event) : Type 0 where
   pub in_order : CountsFrom 0 (takes es)
   pub taken : length (takes es) ≡ (reached es).taken
   pub within : ((reached es).taken ≤ (reached es).claimed) × ((reached es).claimed ≤ n)
   pub ahead : (xs ys : List Event) → xs ++ ys ≡ es → (reached xs).claimed - (reached xs).taken ≤ 8 * m
   pub one_place : (l : ℕ) → (reached es).taken ≤ l → l < (reached es).claimed → IsInOnePlace (reached es) l
-  pub only_claimed : (l : ℕ) → (reached es).placed l ≡ true → ((reached es).taken ≤ l) × (l < (reached es).claimed)
+  pub placed_waits : (l : ℕ) → (reached es).placed l ≡ true → ((reached es).taken ≤ l) × (l < (reached es).claimed)
+  pub work_waits : (v l : ℕ) → (reached es).work v ≡ Some l → (v < m) × ((reached es).taken ≤ l) × (l < (reached es).claimed)
   pub one_holder : (u v : ℕ) → IsSome (stage u es).turn → IsSome (stage v es).turn → u ≡ v
-  pub own : (v : ℕ) → Tells (reached es) v (stage v es)
+  pub own_tells : (v : ℕ) → Tells (reached es) v (stage v es)
+  pub no_others : (v : ℕ) → m ≤ v → own v es ≡ []
+  pub apart : (reached es).apart ≡ true → ((reached es).holder ≡ None) × IsSome (reached es).cause
+  pub write : (f : ℕ) → (reached es).cause ≡ Some (Write f) → (reached es).apart ≡ true
   pub short : length es ≤ 4 * n + m
 
 -- a worker's last look, after all its events: its take was refused

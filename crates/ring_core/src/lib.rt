@@ -13,6 +13,6 @@ mod slots;
 
 pub use answers::{ClaimNo, Ended, TakeNo, Taken, Unmade};
 pub use event::{Cause, Event};
-pub use laws::{last_worker_took_all, runs_are_orderly};
+pub use laws::{idle_workers_leave_nothing, last_worker_took_all, runs_are_orderly};
 pub use parts::{Consumer, Planner};
 pub use ring::{RingName, RingState};

@@ -22,8 +22,9 @@ invariant_of-self g c =
     let idle : (stage c.args.worker s.events.items).work ≡ None = rw (← c.self.view_is) at c.requires.idle in
     let worker = rw (← c.self.view_is) at c.requires.worker in
     let plan_of = g.P.Planner.plan_of (g.P.Planner.name s.planner) in
-    let comes = comes_claim plan_of s.layers s.workers s.events.items (vec_capacity s.events) s.claimed s.taken s.holder s.cause s.slots.items c.args.worker kept worker idle c.in_default.is c.if-self.false c.if-self-2.false in
-    (keeps_claim plan_of s.layers s.workers s.events.items c.note.new.events.items (vec_capacity s.events) (vec_capacity c.note.new.events) s.claimed s.taken s.holder s.cause s.slots.items c.args.worker s.claimed kept comes c.note.ensures.events c.note.ensures.room,
-    home_claim g.C.Consumer.name g.C.Consumer.is_at g.C.Consumer.fault_count (g.P.Planner.name s.planner) s.faults s.events.items c.note.new.events.items c.args.worker s.claimed s.consumer c.note.ensures.events c.self.invariant.1,
-    c.self.invariant.2,
-    c.self.invariant.3)
+    let comes = comes_claim plan_of s.layers s.workers s.events.items (vec_capacity s.events) s.claimed s.taken s.holder s.cause s.slots.items c.args.worker kept worker idle c.in_default.is c.if-self.false c.if-self-2.false in (
+      keeps_claim plan_of s.layers s.workers s.events.items c.note.new.events.items (vec_capacity s.events) (vec_capacity c.note.new.events) s.claimed s.taken s.holder s.cause s.slots.items c.args.worker s.claimed kept comes c.note.ensures.events c.note.ensures.room,
+      home_claim g.C.Consumer.name g.C.Consumer.is_at g.C.Consumer.fault_count (g.P.Planner.name s.planner) s.faults s.events.items c.note.new.events.items c.args.worker s.claimed s.consumer c.note.ensures.events c.self.invariant.1,
+      c.self.invariant.2,
+      c.self.invariant.3,
+    )

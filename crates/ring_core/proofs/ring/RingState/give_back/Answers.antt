@@ -30,12 +30,13 @@ invariant_of-self g c =
     let named = rw (← c.self.view_is) at c.requires.named in
     let faults = rw (← c.self.view_is) at c.requires.faults in
     let plan_of = g.P.Planner.plan_of (g.P.Planner.name s.planner) in
-    let q = given_layer plan_of s.layers s.workers s.events.items (vec_capacity s.events) s.claimed s.taken s.holder s.cause s.slots.items c.args.worker (g.C.Consumer.is_at c.args.consumer) kept accepted in
-    (keeps_back plan_of s.layers s.workers s.events.items c.note.new.events.items (vec_capacity s.events) (vec_capacity c.note.new.events) s.claimed s.taken s.holder s.cause s.slots.items c.args.worker (s.taken - 1)
-    kept q.1 c.note.ensures.events c.note.ensures.room,
-    home_back g.C.Consumer.name g.C.Consumer.is_at g.C.Consumer.fault_count (g.P.Planner.name s.planner) s.faults s.layers s.workers s.events.items c.note.new.events.items c.args.worker (s.taken - 1) c.args.consumer kept.run q.1 c.note.ensures.events named faults q.2,
-    c.self.invariant.2,
-    c.self.invariant.3)
+    let q = given_layer plan_of s.layers s.workers s.events.items (vec_capacity s.events) s.claimed s.taken s.holder s.cause s.slots.items c.args.worker (g.C.Consumer.is_at c.args.consumer) kept accepted in (
+      keeps_back plan_of s.layers s.workers s.events.items c.note.new.events.items (vec_capacity s.events) (vec_capacity c.note.new.events) s.claimed s.taken s.holder s.cause s.slots.items c.args.worker (s.taken - 1)
+          kept q.1 c.note.ensures.events c.note.ensures.room,
+      home_back g.C.Consumer.name g.C.Consumer.is_at g.C.Consumer.fault_count (g.P.Planner.name s.planner) s.faults s.layers s.workers s.events.items c.note.new.events.items c.args.worker (s.taken - 1) c.args.consumer kept.run q.1 c.note.ensures.events named faults q.2,
+      c.self.invariant.2,
+      c.self.invariant.3,
+    )
 
 pub returns : goal.returns
 returns g c =

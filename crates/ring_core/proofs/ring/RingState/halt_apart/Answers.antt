@@ -30,10 +30,11 @@ invariant_of-self g c =
     let risen : Rose s.faults (g.C.Consumer.fault_count c.args.consumer) = rw (← c.self.view_is) at c.requires.risen in
     let small : s.faults < 2 ^ 64 = search rules in
     let comes = comes_halt g.C.Consumer.fault_count s.layers s.workers s.events.items c.args.worker c.args.cause (Some c.args.consumer) kept.run first (λ h. turn) reason in
-    let has = held s.layers s.workers s.events.items c.args.worker kept.run turn in
-    (keeps_halt (g.P.Planner.plan_of (g.P.Planner.name s.planner)) s.layers s.workers s.events.items c.note.new.events.items (vec_capacity s.events) (vec_capacity c.note.new.events) s.claimed s.taken s.holder None s.cause c.first-self-inside.result s.slots.items c.args.worker c.args.cause
-    kept comes c.note.ensures.events c.note.ensures.room (ap (λ b. cond b None (reached s.events.items).holder) (held_self (reached s.events.items).holder c.args.worker has)) c.first-self-inside.ensures,
-    home_halt g.C.Consumer.name g.C.Consumer.is_at g.C.Consumer.fault_count (g.P.Planner.name s.planner) s.faults s.layers s.workers s.events.items c.note.new.events.items c.args.worker c.args.cause c.args.consumer kept.run has c.note.ensures.events named
-    (rose_le s.faults (g.C.Consumer.fault_count c.args.consumer) small risen) risen (reason_is g.C.Consumer.fault_count (stage c.args.worker s.events.items) c.args.consumer c.args.cause reason),
-    c.self.invariant.2,
-    c.self.invariant.3)
+    let has = held s.layers s.workers s.events.items c.args.worker kept.run turn in (
+      keeps_halt (g.P.Planner.plan_of (g.P.Planner.name s.planner)) s.layers s.workers s.events.items c.note.new.events.items (vec_capacity s.events) (vec_capacity c.note.new.events) s.claimed s.taken s.holder None s.cause c.first-self-inside.result s.slots.items c.args.worker c.args.cause
+          kept comes c.note.ensures.events c.note.ensures.room (ap (λ b. cond b None (reached s.events.items).holder) (held_self (reached s.events.items).holder c.args.worker has)) c.first-self-inside.ensures,
+      home_halt g.C.Consumer.name g.C.Consumer.is_at g.C.Consumer.fault_count (g.P.Planner.name s.planner) s.faults s.layers s.workers s.events.items c.note.new.events.items c.args.worker c.args.cause c.args.consumer kept.run has c.note.ensures.events named
+          (rose_le s.faults (g.C.Consumer.fault_count c.args.consumer) small risen) risen (reason_is g.C.Consumer.fault_count (stage c.args.worker s.events.items) c.args.consumer c.args.cause reason),
+      c.self.invariant.2,
+      c.self.invariant.3,
+    )

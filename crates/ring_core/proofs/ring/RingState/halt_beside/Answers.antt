@@ -24,9 +24,10 @@ invariant_of-self g c =
     let turn : (stage c.args.worker s.events.items).turn ≡ None = rw (← c.self.view_is) at c.requires.turn in
     let reason : IsReason g.C.Consumer.fault_count (stage c.args.worker s.events.items) None c.args.cause = rw (← c.self.view_is) at c.requires.reason in
     let comes = comes_halt g.C.Consumer.fault_count s.layers s.workers s.events.items c.args.worker c.args.cause None kept.run first (λ h. absurd (cc h)) reason in
-    let free = not_held s.layers s.workers s.events.items c.args.worker kept.run turn in
-    (keeps_halt (g.P.Planner.plan_of (g.P.Planner.name s.planner)) s.layers s.workers s.events.items c.note.new.events.items (vec_capacity s.events) (vec_capacity c.note.new.events) s.claimed s.taken s.holder s.holder s.cause c.first-self-inside.result s.slots.items c.args.worker c.args.cause
-    kept comes c.note.ensures.events c.note.ensures.room (ap (λ b. cond b None (reached s.events.items).holder) free ∙ kept.shows.holder_is) c.first-self-inside.ensures,
-    home_beside g.C.Consumer.name g.C.Consumer.is_at g.C.Consumer.fault_count (g.P.Planner.name s.planner) s.faults s.events.items c.note.new.events.items c.args.worker c.args.cause s.consumer (no_write g.C.Consumer.fault_count (stage c.args.worker s.events.items) c.args.cause reason) free c.note.ensures.events c.self.invariant.1,
-    c.self.invariant.2,
-    c.self.invariant.3)
+    let free = not_held s.layers s.workers s.events.items c.args.worker kept.run turn in (
+      keeps_halt (g.P.Planner.plan_of (g.P.Planner.name s.planner)) s.layers s.workers s.events.items c.note.new.events.items (vec_capacity s.events) (vec_capacity c.note.new.events) s.claimed s.taken s.holder s.holder s.cause c.first-self-inside.result s.slots.items c.args.worker c.args.cause
+          kept comes c.note.ensures.events c.note.ensures.room (ap (λ b. cond b None (reached s.events.items).holder) free ∙ kept.shows.holder_is) c.first-self-inside.ensures,
+      home_beside g.C.Consumer.name g.C.Consumer.is_at g.C.Consumer.fault_count (g.P.Planner.name s.planner) s.faults s.events.items c.note.new.events.items c.args.worker c.args.cause s.consumer (no_write g.C.Consumer.fault_count (stage c.args.worker s.events.items) c.args.cause reason) free c.note.ensures.events c.self.invariant.1,
+      c.self.invariant.2,
+      c.self.invariant.3,
+    )
