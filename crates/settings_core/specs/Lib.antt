@@ -1,1 +1,4 @@
+pub mod Code
+pub mod Lookup
+pub mod Table
 pub mod Valid

@@ -2,8 +2,12 @@
 // settings file; what comes out is every setting in whole units, as `settings_of` in `specs/` says.
 #![tactic(auto)]
 
+mod code;
+mod lookup;
 mod pairs;
 mod resolved;
+mod table;
 
 pub use pairs::{Given, Pair, Scope};
 pub use resolved::{ExtruderSettings, MeshSettings, Seam, Settings};
+pub use table::{Group, Kind, Range, SETTINGS, Setting, Unit, places};
