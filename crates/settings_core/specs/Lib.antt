@@ -1,4 +1,5 @@
 pub mod Code
+pub mod File
 pub mod Lookup
 pub mod Table
 pub mod Valid

@@ -3,11 +3,13 @@
 #![tactic(auto)]
 
 mod code;
+mod file;
 mod lookup;
 mod pairs;
 mod resolved;
 mod table;
 
+pub use file::{FileFault, read_file};
 pub use pairs::{Given, Pair, Scope};
 pub use resolved::{ExtruderSettings, MeshSettings, Seam, Settings};
 pub use table::{Group, Kind, Range, SETTINGS, Setting, Unit, places};
