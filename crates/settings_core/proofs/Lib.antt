@@ -1,1 +1,3 @@
 pub mod FileLemmas
+pub mod Names
+pub mod Ranges

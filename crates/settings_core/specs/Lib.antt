@@ -1,5 +1,9 @@
 pub mod Code
+pub mod Fault
 pub mod File
 pub mod Lookup
+pub mod Reading
+pub mod Resolve
 pub mod Table
 pub mod Valid
+pub mod Value

@@ -1,12 +1,11 @@
 -- The table of settings.
-use Rattle.std.specs.Prelude.{ℕ, Bool, true, false, List, codes}
+use Rattle.std.specs.Prelude.{ℕ, true, false, List, [], codes, ⊤}
 use Rattle.settings_core.specs.declared.table.Setting.{Setting}
 use Rattle.settings_core.specs.declared.table.Setting.TheVariants.{LayerHeight, LayerHeight0, MaterialBedTemperature, MachineExtruderCount, SkirtLineCount, SkirtGap, LayerStartX, LayerStartY, MachineWidth, MachineDepth, MachineHeight, MachineStartGcode, MachineEndGcode, CoolFanSpeed, CoolFanFullLayer, CoolMinLayerTime, CoolMinSpeed, MaterialPrintTemperature, MaterialStandbyTemperature, MachineNozzleHeatUpSpeed, MachineNozzleCoolDownSpeed, MaterialDiameter, MaterialFlow, RetractionEnable, RetractionAmount, RetractionSpeed, RetractionMinTravel, SpeedTravel, WallLineCount, WallLineWidth, TopLayers, BottomLayers, InfillLineDistance, SpeedWall0, SpeedTopbottom, SpeedWallX, SpeedInfill, ZSeamType, CenterObject, MeshPositionX, MeshPositionY, MeshPositionZ, ExtruderNr}
 use Rattle.settings_core.specs.declared.table.Group.{Group}
 use Rattle.settings_core.specs.declared.table.Group.TheVariants.{Global, Extruder, Mesh}
 use Rattle.settings_core.specs.declared.table.Unit.{Unit}
 use Rattle.settings_core.specs.declared.table.Unit.TheVariants.{Micron, MicronPerSecond, Millisecond, MillicelsiusPerSecond, Celsius, Percent, Count, Number}
-use Rattle.settings_core.specs.declared.table.Range.{Range}
 use Rattle.settings_core.specs.declared.table.Kind.{Kind}
 use Rattle.settings_core.specs.declared.table.Kind.TheVariants.{Count as AsCount, Position, Truth, Seam, Code}
 
@@ -166,3 +165,25 @@ kind_of MeshPositionX = Position
 kind_of MeshPositionY = Position
 kind_of MeshPositionZ = Position
 kind_of ExtruderNr = number_kind Number 0 7 0
+
+-- the code that stands where no pair gives one
+abbrev pub default_code_of : Setting → List ℕ
+default_code_of MachineStartGcode = codes "G28"
+default_code_of MachineEndGcode = codes "M84"
+default_code_of _ = []
+
+-- the setting is a number without a sign
+abbrev pub IsCount : Kind → Type 0
+IsCount (AsCount range) = ⊤
+IsCount Position = ⊥
+IsCount (Truth default) = ⊥
+IsCount Seam = ⊥
+IsCount Code = ⊥
+
+-- the setting is a truth value
+abbrev pub IsTruth : Kind → Type 0
+IsTruth (AsCount range) = ⊥
+IsTruth Position = ⊥
+IsTruth (Truth default) = ⊤
+IsTruth Seam = ⊥
+IsTruth Code = ⊥

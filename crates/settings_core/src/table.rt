@@ -1,7 +1,8 @@
 // The table of settings: what each one is called, what it speaks of, and which values it takes.
 
-ghost use Rattle.std.specs.Prelude.{◌≡◌};
-ghost use Rattle.settings_core.specs.Table.{name_of, group_of, kind_of, places_of, number_kind, number_or_zero_kind};
+ghost use Rattle.std.specs.Prelude.{◌≡◌, ◌≤◌};
+ghost use Rattle.settings_core.specs.Reading.{setting_of};
+ghost use Rattle.settings_core.specs.Table.{name_of, group_of, kind_of, places_of, number_kind, number_or_zero_kind, default_code_of};
 
 /// A setting that this slicer knows. The names are those of Cura's `fdmprinter.def.json` and
 /// `fdmextruder.def.json`; ranges and defaults are our own.
@@ -147,9 +148,7 @@ pub enum Kind {
     /// A place in µm, written in mm: at most a metre from 0, which is the default.
     Position,
     /// `true` or `false`, in any ASCII case.
-    Truth {
-        default: bool,
-    },
+    Truth { default: bool },
     /// `shortest`, which is the default, `back`, `sharpest_corner` or `random`.
     Seam,
     /// Lines of G-code, 65,536 bytes at most.
@@ -158,13 +157,11 @@ pub enum Kind {
 
 /// How many places after the point a number of this unit has, as it is written.
 pub fn places(unit: Unit) -> u8
-    ensures { result ≡ places_of unit }
+    ensures value { result ≡ places_of unit }
+    ensures few { result ≤ 3 }
 {
     match unit {
-        Unit::Micron
-        | Unit::MicronPerSecond
-        | Unit::Millisecond
-        | Unit::MillicelsiusPerSecond => 3,
+        Unit::Micron | Unit::MicronPerSecond | Unit::Millisecond | Unit::MillicelsiusPerSecond => 3,
         Unit::Celsius | Unit::Percent | Unit::Count | Unit::Number => 0,
     }
 }
@@ -172,6 +169,13 @@ pub fn places(unit: Unit) -> u8
 impl Setting {
     /// The key of the setting.
     pub fn name(self) -> &'static str
+        ensures value { result.now ≡ name_of self }
+        ensures known { setting_of result.now ≡ Some self }
+    {
+        self.key()
+    }
+
+    fn key(self) -> &'static str
         ensures { result.now ≡ name_of self }
     {
         match self {
@@ -296,8 +300,18 @@ impl Setting {
             Setting::CoolMinSpeed => number(Unit::MicronPerSecond, 0, 1000000, 10000),
             Setting::MaterialPrintTemperature => number(Unit::Celsius, 0, 400, 210),
             Setting::MaterialStandbyTemperature => number(Unit::Celsius, 0, 400, 150),
-            Setting::MachineNozzleHeatUpSpeed => number(Unit::MillicelsiusPerSecond, 1, 1000000, 2000),
-            Setting::MachineNozzleCoolDownSpeed => number(Unit::MillicelsiusPerSecond, 1, 1000000, 2000),
+            Setting::MachineNozzleHeatUpSpeed => number(
+                Unit::MillicelsiusPerSecond,
+                1,
+                1000000,
+                2000,
+            ),
+            Setting::MachineNozzleCoolDownSpeed => number(
+                Unit::MillicelsiusPerSecond,
+                1,
+                1000000,
+                2000,
+            ),
             Setting::MaterialDiameter => number(Unit::Micron, 500, 10000, 1750),
             Setting::MaterialFlow => number(Unit::Percent, 1, 500, 100),
             Setting::RetractionEnable => Kind::Truth { default: true },
@@ -320,6 +334,17 @@ impl Setting {
             Setting::MeshPositionY => Kind::Position,
             Setting::MeshPositionZ => Kind::Position,
             Setting::ExtruderNr => number(Unit::Number, 0, 7, 0),
+        }
+    }
+
+    /// The code that stands where no pair gives one; it is empty for settings that are no code.
+    pub fn default_code(self) -> &'static str
+        ensures { result.now ≡ default_code_of self }
+    {
+        match self {
+            Setting::MachineStartGcode => "G28",
+            Setting::MachineEndGcode => "M84",
+            _ => "",
         }
     }
 }
