@@ -1,0 +1,4 @@
+pub mod Rounds
+pub mod Ways
+pub mod Edges
+pub mod Tops
