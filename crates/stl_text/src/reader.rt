@@ -13,6 +13,9 @@ use crate::words::split_line;
 use slice_base::Tri;
 use std::alloc::Global;
 
+/// The fewest bytes that a facet's seven lines can have.
+const LEAST_FACET: usize = 73;
+
 // Reads all lines; the error is the number of the first line at fault.
 fn gather(bytes: &[u8], gathered: &mut Gathered) -> Result<(), u32>
     requires size { length bytes.now ≤ 268435456 }
@@ -59,7 +62,7 @@ fn finish(gathered: Gathered) -> Result<Vec<Tri>, StlFault>
 }
 
 /// The triangles of the facets of an ASCII STL file, in µm from its mm, without those with two equal
-/// corners. Several solids are one mesh.
+/// corners. Several solids are one mesh. The file has at most 268,435,456 bytes.
 ///
 /// The format is that of 3D Systems' StereoLithography Interface Specification.
 pub fn read_stl(alloc: Global, bytes: &[u8]) -> Result<Vec<Tri>, StlFault>
@@ -79,7 +82,7 @@ pub fn read_stl(alloc: Global, bytes: &[u8]) -> Result<Vec<Tri>, StlFault>
     ensures near { IfOk result (λ v. All IsNear v.items) }
     ensures few { IfOk result (λ v. length v.items ≤ MOST_TRIANGLES) }
 {
-    let room = (bytes.len() / 73).min(MOST_TRIANGLES as usize);
+    let room = (bytes.len() / LEAST_FACET).min(MOST_TRIANGLES as usize);
     let mut gathered = Gathered::new(alloc, room);
     match gather(bytes, &mut gathered) {
         Err(line) => Err(StlFault::BadLine { line }),
