@@ -1,0 +1,138 @@
+-- The command that a list of words gives, or the first fault of it. A word is the list of its bytes.
+use Rattle.std.specs.Prelude.{ℕ, ◌+◌, ◌==◌, count_by, Bool, true, false, cond, ◌&&◌, List, [], ◌∷◌, ◌++◌, Option, Some, None, Result, Ok, Err, bytes_eq, codes, option_to_list}
+use Rattle.std.specs.List.{fold}
+use Rattle.settings_core.specs.declared.pairs.Scope.{Scope}
+use Rattle.settings_core.specs.declared.pairs.Scope.TheVariants as scope
+use Rattle.settings_core.specs.declared.pairs.Given.TheVariants.{Words}
+use Rattle.cli_words.specs.declared.command.Item.{Item}
+use Rattle.cli_words.specs.declared.command.Item.TheVariants as item
+use Rattle.cli_words.specs.declared.command.Task.{Task}
+use Rattle.cli_words.specs.declared.command.Command.{Command}
+use Rattle.cli_words.specs.declared.command.Command.TheVariants as command
+use Rattle.cli_words.specs.declared.command.WordFault.{WordFault}
+use Rattle.cli_words.specs.declared.command.WordFault.TheVariants.{BadWord, NoInput, NoOutput}
+use Rattle.cli_words.specs.declared.read.Kind.{Kind}
+use Rattle.cli_words.specs.declared.read.Kind.TheVariants as kind
+use Rattle.cli_words.specs.Choices.{Chosen, settings, mesh, extruder, everything, pair, output, workers, journal, is_mesh, number_of, choices_of}
+
+-- what later pairs belong to, the extruder of later meshes, and the meshes so far
+pub record Place : Type 0 where
+  pub scope : Scope
+  pub extruder : ℕ
+  pub meshes : ℕ
+
+abbrev pub start : Place
+start = record { scope = scope.Global; extruder = 0; meshes = 0 }
+
+abbrev pub moved : Place → Chosen → Place
+moved p (extruder n) = record { scope = scope.Extruder n; extruder = n; meshes = p.meshes }
+moved p everything = record { scope = scope.Global; extruder = p.extruder; meshes = p.meshes }
+moved p (mesh name) = record { scope = scope.Mesh p.meshes; extruder = p.extruder; meshes = p.meshes + 1 }
+moved p c = p
+
+abbrev pub place_after : List Chosen → Place
+place_after cs = fold moved start cs
+
+-- what a choice adds to a task
+abbrev pub items_of : Place → Chosen → List Item
+items_of p (settings name) = item.Settings name ∷ []
+items_of p (mesh name) = item.Mesh name p.extruder ∷ []
+items_of p (pair key value) = item.Pair (record { scope = p.scope; key = key; value = Words value }) ∷ []
+items_of p c = []
+
+abbrev pub all_items : Place → List Chosen → List Item
+all_items p [] = []
+all_items p (c ∷ cs) = items_of p c ++ all_items (moved p c) cs
+
+-- the last one counts
+abbrev pub workers_or : ℕ → Chosen → ℕ
+workers_or n (workers m) = m
+workers_or n c = n
+
+abbrev pub output_or : Option (List ℕ) → Chosen → Option (List ℕ)
+output_or o (output name) = Some name
+output_or o c = o
+
+abbrev pub journal_or : Bool → Chosen → Bool
+journal_or b journal = true
+journal_or b c = b
+
+abbrev pub output_in : List Chosen → Option (List ℕ)
+output_in cs = fold output_or None cs
+
+abbrev pub task_of : List Chosen → Task
+task_of cs = record { workers = fold workers_or 4 cs; journal = fold journal_or false cs; out = output_in cs; items = all_items start cs }
+
+abbrev pub is_none : Option (List ℕ) → Bool
+is_none None = true
+is_none (Some name) = false
+
+abbrev pub kind_of : List ℕ → Option Kind
+kind_of w =
+    cond (bytes_eq w (codes "slice")) (Some kind.Slice)
+    (cond (bytes_eq w (codes "serial")) (Some kind.Serial)
+    (cond (bytes_eq w (codes "check")) (Some kind.Check)
+    (cond (bytes_eq w (codes "gen")) (Some kind.Gen) None)))
+
+abbrev pub needs_output : Kind → Bool
+needs_output kind.Check = false
+needs_output k = true
+
+abbrev pub task_command : Kind → Task → Command
+task_command kind.Slice t = command.Slice t
+task_command kind.Serial t = command.Serial t
+task_command k t = command.Check t
+
+-- a task has a mesh, and a file to write where it writes one
+abbrev pub task_checked : Kind → List Chosen → Result Command WordFault
+task_checked k cs =
+    cond (count_by is_mesh cs == 0) (Err NoInput)
+    (cond (needs_output k && is_none (output_in cs)) (Err NoOutput) (Ok (task_command k (task_of cs))))
+
+abbrev pub task_if : Kind → Result (List Chosen) ℕ → Result Command WordFault
+task_if k (Err n) = Err (BadWord n)
+task_if k (Ok cs) = task_checked k cs
+
+-- `gen`, a number of at most ten digits, `-o` and a file; no other word
+abbrev pub gen_file : ℕ → List (List ℕ) → Result Command WordFault
+gen_file n [] = Err (BadWord 3)
+gen_file n (name ∷ []) = Ok (command.Gen n name)
+gen_file n (name ∷ w ∷ ws) = Err (BadWord 5)
+
+abbrev pub gen_output : ℕ → List (List ℕ) → Result Command WordFault
+gen_output n [] = Err NoOutput
+gen_output n (w ∷ ws) = cond (bytes_eq w (codes "-o")) (gen_file n ws) (Err (BadWord 3))
+
+abbrev pub gen_numbered : Option ℕ → List (List ℕ) → Result Command WordFault
+gen_numbered None ws = Err (BadWord 2)
+gen_numbered (Some n) ws = gen_output n ws
+
+abbrev pub gen_of : List (List ℕ) → Result Command WordFault
+gen_of [] = Err (BadWord 2)
+gen_of (w ∷ ws) = gen_numbered (number_of 10 0 4294967295 w) ws
+
+abbrev pub command_by : Option Kind → List (List ℕ) → Result Command WordFault
+command_by None ws = Err (BadWord 1)
+command_by (Some kind.Gen) ws = gen_of ws
+command_by (Some k) ws = task_if k (choices_of ws)
+
+-- the command that the words give, or their first fault
+unfoldable pub command_of : List (List ℕ) → Result Command WordFault
+command_of [] = Err (BadWord 1)
+command_of (w ∷ ws) = command_by (kind_of w) ws
+
+-- the file names of a command, in order
+abbrev pub item_names : List Item → List (List ℕ)
+item_names [] = []
+item_names (item.Pair p ∷ is) = item_names is
+item_names (item.Settings name ∷ is) = name ∷ item_names is
+item_names (item.Mesh name e ∷ is) = name ∷ item_names is
+
+abbrev pub task_names : Task → List (List ℕ)
+task_names t = option_to_list t.out ++ item_names t.items
+
+abbrev pub names_of : Command → List (List ℕ)
+names_of (command.Slice t) = task_names t
+names_of (command.Serial t) = task_names t
+names_of (command.Check t) = task_names t
+names_of (command.Gen n name) = name ∷ []
