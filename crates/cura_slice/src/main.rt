@@ -3,6 +3,8 @@
 #![tactic(auto)]
 
 #[cfg(test)]
+mod meshes;
+#[cfg(test)]
 mod tests;
 
 use outside::{DirShelf, FileSink, OutSink};

@@ -1,147 +1,11 @@
-// Runs over files and sinks in memory. The expected files were worked out by hand from the rules.
+// Runs over files and sinks in memory.
 
+use crate::meshes::{CAVITY, CAVITY_FILE, PLATE, PLATE_FILE, TETRA, TETRA_FILE, TWO, TWO_FILE};
 use outside::{MemShelf, MemSink};
 use slice_base::Text;
 use slice_engine::{Refusal, Run, still_top};
 use std::alloc::Global;
 use std::test::Fail;
-
-// Corners (0,0,0), (10,0,0), (0,10,0) and (0,0,0.3) mm.
-const TETRA: &[u8] = b"solid tetra
-facet normal 0 0 -1
-outer loop
-vertex 0 0 0
-vertex 0 10 0
-vertex 10 0 0
-endloop
-endfacet
-facet normal 0 -1 0
-outer loop
-vertex 0 0 0
-vertex 10 0 0
-vertex 0 0 0.3
-endloop
-endfacet
-facet normal 1 1 1
-outer loop
-vertex 10 0 0
-vertex 0 10 0
-vertex 0 0 0.3
-endloop
-endfacet
-facet normal -1 0 0
-outer loop
-vertex 0 10 0
-vertex 0 0 0
-vertex 0 0 0.3
-endloop
-endfacet
-endsolid tetra
-";
-
-const TETRA_FILE: &[u8] = b";FLAVOR:Marlin
-G21
-G90
-;LAYER_COUNT:1
-;LAYER:0
-G0 F7200.000 X0.000 Y0.000 Z0.300
-G1 F1800.000 X5.000 Y0.000
-G1 X0.000 Y5.000
-G1 X0.000 Y0.000
-M84
-";
-
-// A tetrahedron of four layers: (1,2,0), (8,2,0), (1,9,0), (1,2,1) mm, and one of one layer beside it.
-const TWO: &[u8] = b"solid two
-facet
-outer loop
-vertex 1 2 0
-vertex 1 9 0
-vertex 8 2 0
-endloop
-endfacet
-facet
-outer loop
-vertex 1 2 0
-vertex 8 2 0
-vertex 1 2 1
-endloop
-endfacet
-facet
-outer loop
-vertex 8 2 0
-vertex 1 9 0
-vertex 1 2 1
-endloop
-endfacet
-facet
-outer loop
-vertex 1 9 0
-vertex 1 2 0
-vertex 1 2 1
-endloop
-endfacet
-facet
-outer loop
-vertex 10 20 0
-vertex 10 26 0
-vertex 16 20 0
-endloop
-endfacet
-facet
-outer loop
-vertex 10 20 0
-vertex 16 20 0
-vertex 10 20 0.3
-endloop
-endfacet
-facet
-outer loop
-vertex 16 20 0
-vertex 10 26 0
-vertex 10 20 0.3
-endloop
-endfacet
-facet
-outer loop
-vertex 10 26 0
-vertex 10 20 0
-vertex 10 20 0.3
-endloop
-endfacet
-endsolid
-";
-
-const TWO_FILE: &[u8] = b";FLAVOR:Marlin
-G21
-G90
-;LAYER_COUNT:4
-;LAYER:0
-G0 F7200.000 X1.000 Y2.000 Z0.300
-G1 F1800.000 X6.950 Y2.000
-G1 X1.000 Y7.950
-G1 X1.000 Y2.000
-G0 F7200.000 X10.000 Y20.000
-G1 F1800.000 X13.000 Y20.000
-G1 X10.000 Y23.000
-G1 X10.000 Y20.000
-;LAYER:1
-G0 F7200.000 X1.000 Y2.000 Z0.500
-G1 F1800.000 X5.200 Y2.000
-G1 X1.000 Y6.200
-G1 X1.000 Y2.000
-;LAYER:2
-G0 F7200.000 X1.000 Y2.000 Z0.700
-G1 F1800.000 X3.800 Y2.000
-G1 X1.000 Y4.800
-G1 X1.000 Y2.000
-;LAYER:3
-G0 F7200.000 X1.000 Y2.000 Z0.900
-G1 F1800.000 X2.400 Y2.000
-G1 X1.000 Y3.400
-G1 X1.000 Y2.000
-M84
-";
 
 // Runs the words over a shelf with one file `t`; the sink takes `most` bytes a put.
 fn run(
@@ -180,10 +44,11 @@ fn a_tetrahedron_is_written_as_its_outline(rt: HostRuntime) -> Result<(), Fail> 
 }
 
 #[test]
-fn bodies_of_several_layers_come_byte_by_byte(rt: HostRuntime) -> Result<(), Fail> {
-    let (run, sink) = run(rt.alloc(), "serial -l t -o o", TWO, 1, &[])?;
-    assert!(rt; answer(&run) == (0, 99));
-    assert!(rt; sink.bytes() == TWO_FILE);
+fn meshes_come_byte_by_byte_as_well(rt: HostRuntime) -> Result<(), Fail> {
+    for (mesh, file) in [(TWO, TWO_FILE), (PLATE, PLATE_FILE), (CAVITY, CAVITY_FILE)] {
+        let (run, sink) = run(rt.alloc(), "serial -l t -o o", mesh, 1, &[])?;
+        assert!(rt; answer(&run) == (0, 99) && sink.bytes() == file);
+    }
     Ok(())
 }
 
