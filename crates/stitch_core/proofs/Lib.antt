@@ -1,0 +1,5 @@
+pub mod Leasts
+pub mod Joined
+pub mod Turns
+pub mod Kept
+pub mod Ends

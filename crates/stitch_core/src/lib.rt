@@ -1,0 +1,12 @@
+// Stitching: directed edges go in, closed loops and the number of chains that couldn't be closed come out.
+// The result is exactly `stitch_of` of `specs/Stitch.antt`: loose chains are joined across the least gap.
+#![tactic(auto)]
+
+mod gaps;
+mod joins;
+mod stitches;
+
+pub use stitches::{Stitched, stitch};
+
+#[cfg(test)]
+mod tests;
