@@ -1,5 +1,5 @@
 -- Winning, releasing, looking and counting keep the lock's rule.
-use Rattle.std.proofs.Common.{◌≡◌, ◌≢◌, ℕ, ◌+◌, ◌-◌, ◌%◌, ◌^◌, ◌≤◌, true, false, eqb, List, [], ◌∷◌, length, set, get_or, Option, Some, refl, sym, ap, ◌∙◌, subst, ⊎_elim, arith, ne_eqb}
+use Rattle.std.proofs.Common.{◌≡◌, ◌≢◌, ℕ, ◌+◌, ◌-◌, ◌%◌, ◌^◌, ◌≤◌, true, false, eqb, List, [], ◌∷◌, length, set, get_or, Option, Some, None, refl, sym, ap, ◌∙◌, subst, ⊎_elim, arith, ne_eqb}
 use mathlib.Core.Logic.{dite}
 use mathlib.Core.Option.{some, some-injective, some-ne-none}
 use mathlib.Core.Option as maybe
@@ -12,7 +12,7 @@ use Rattle.atomic_table.specs.Table.{State, Me, Act, Step, step, rest, keeps, ta
 use Rattle.atomic_table.proofs.Lists.{at_set, set_again}
 use Rattle.turn_lock.specs.declared.view.View.{View}
 use Rattle.turn_lock.specs.Events.{made_by, has_number, GrewBy}
-use Rattle.turn_lock.specs.Turns.{SeatRule, Ruled, IsHome, Wins, Releases, Looks, Counts, saw}
+use Rattle.turn_lock.specs.Turns.{SeatRule, Ruled, IsHome, Wins, Releases, Looks, Counts, OneHolds, saw}
 use Rattle.turn_lock.proofs.Views.{set_single, set_at, nothing_before}
 
 module _ {T N E : Type 0} (name : T → N) (events : T → List E) (worker : E → ℕ) where
@@ -36,6 +36,15 @@ module _ {T N E : Type 0} (name : T → N) (events : T → List E) (worker : E �
 
   unchanged : (w z : ℕ) (hs : Places) (vs : List V) (id : ℕ) (v : V) (c : List (ℕ × Option T)) → get_elem? vs id ≡ some v → Ok (at_state (w ∷ z ∷ []) hs vs) → Ok (stepped (at_state (w ∷ z ∷ []) hs vs) 0 w id c v keeps)
   unchanged w z hs vs id v c at r = subst (λ us. Ok (at_state (w ∷ z ∷ []) hs us)) (sym (set_again vs id v at)) r
+
+  pub one_holds : OneHolds name events worker
+  one_holds s r i j v w at_v at_w turn turn' =
+      let h = r.each_seat i v at_v in
+      let k = r.each_seat j w at_w in
+      let a = h.has_turn turn in
+      let b = k.has_turn turn' in
+      let same : v.number ≡ w.number = omega (arith, a.0, b.0) in
+      sym (h.own v.number a.2).0 ∙ (ap r.owner same ∙ (k.own w.number b.2).0)
 
   abbrev Goes : ℕ → V → ℕ → ℕ → List ℕ → Places → List V → Type 0
   Goes id v slots new ws hs vs =
@@ -208,7 +217,8 @@ module _ {T N E : Type 0} (name : T → N) (events : T → List E) (worker : E �
         refl,
       )
 
-  pub releases : (slots id : ℕ) (m : M) (v : V) (x : T) → m ≡ (v, (0, Some x) ∷ []) → v.turn ≡ true → v.name ≡ Some (name x) → GrewBy worker v.number v.seen (events x)
+  pub releases : (slots id : ℕ) (m : M) (v : V) (out : List (ℕ × Option T)) (x : T) → m ≡ (v, (0, Some x) ∷ rest out) → out ≡ (0, None) ∷ [] → v.turn ≡ true → v.name ≡ Some (name x) → GrewBy worker v.number v.seen (events x)
       → Allows Ok slots id m 0 (λ _. 0) (λ _. Releases name events worker (step slots 0 0 0 maybe.none) m 0)
-  releases slots id m v x is turn named grew =
-      subst (λ m. Allows Ok slots id m 0 (λ _. 0) (λ _. Releases name events worker (step slots 0 0 0 maybe.none) m 0)) (sym is) (releases_at slots id v x turn named grew)
+  releases slots id m v out x is empty turn named grew =
+      let put : m ≡ (v, (0, Some x) ∷ []) = is ∙ ap {B = M} (λ l. (v, (0, Some x) ∷ rest l)) empty in
+      subst (λ m. Allows Ok slots id m 0 (λ _. 0) (λ _. Releases name events worker (step slots 0 0 0 maybe.none) m 0)) (sym put) (releases_at slots id v x turn named grew)

@@ -102,6 +102,10 @@ module _ {T N E : Type 0} (name : T → N) (events : T → List E) (worker : E �
     pub fresh : (n : ℕ) → made ≤ n → made_by worker n log ≡ []
     pub each_seat : (id : ℕ) (v : View N E) → get_elem? s.views id ≡ some v → SeatRule word is log made owner id v
 
+  -- whatever the lock's state is, at most one seat holds the turn
+  abbrev pub OneHolds : Type 0
+  OneHolds = (s : State (Option T) (View N E)) → Ruled s → (i j : ℕ) (v w : View N E) → get_elem? s.views i ≡ some v → get_elem? s.views j ≡ some w → v.turn ≡ true → w.turn ≡ true → i ≡ j
+
   abbrev pub Sat : Type 0
   Sat = Me (Option T) (View N E)
 

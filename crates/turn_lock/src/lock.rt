@@ -1,7 +1,7 @@
 ghost use Rattle.std.specs.Prelude.{◌≡◌, ◌+◌, ◌<◌, ◌≤◌, ◌++◌, ℕ, true, false, [], ◌∷◌, IfOk, IfErr, Some, None, MatchOption, IfSome};
 ghost use mathlib.Core.List.{IsPrefix};
 ghost use Rattle.turn_lock.specs.Events.{made_by, has_number, GrewBy, longer};
-ghost use Rattle.turn_lock.specs.Turns.{Finds};
+ghost use Rattle.turn_lock.specs.Turns.{Finds, OneHolds};
 
 use crate::seat::Seat;
 use crate::steps::{Count, Draw, Look, Release, Rule, TakeBack, Win};
@@ -118,6 +118,11 @@ impl<T: Kept> TurnLock<T> {
             inner,
         }
     }
+
+    /// Whatever state the lock is in, at most one seat holds the turn. The call does nothing.
+    pub fn one_holder(&self)
+        ensures { OneHolds T.name T.events T.Event.number }
+    {}
 
     // Takes the value out where nobody holds the turn.
     fn try_take(&self, seat: &mut Seat<T>) -> Option<T>

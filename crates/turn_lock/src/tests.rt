@@ -6,7 +6,9 @@ use std::alloc::{AllocError, Global};
 use std::process::Abort;
 use std::sync::Wait;
 use std::test::*;
+use std::thread;
 use std::thread::{Threads, join_mut};
+use std::time::{Clock, Duration};
 
 #[derive(Clone, Copy)]
 struct Entry {
@@ -142,6 +144,85 @@ fn four_write<R: Threads + Wait + Sync>(
     lock.join(&mut first, second);
     lock.join(&mut first, third);
     Ok(lock.close(first))
+}
+
+fn hold<R: Wait + Clock>(rt: &R, lock: &TurnLock<Diary>, seat: &mut Seat<Diary>)
+    requires own { (seat.old.lock ≡ lock.now.id) × (seat.old.turn ≡ false) }
+    ensures { seat.new ≡ record seat.old { seen = seat.new.seen } }
+{
+    let worker = seat.worker();
+    let mut diary = lock.take(rt, seat);
+    thread::sleep(rt, Duration::from_millis(100));
+    diary.write(Entry { worker, step: 0 });
+    lock.give(seat, diary);
+}
+
+fn pause_late<R: Wait + Clock>(rt: &R, lock: &TurnLock<Diary>, seat: &mut Seat<Diary>)
+    requires own { (seat.old.lock ≡ lock.now.id) × (seat.old.turn ≡ false) }
+    ensures { seat.new ≡ record seat.old { seen = seat.new.seen } }
+{
+    thread::sleep(rt, Duration::from_millis(20));
+    lock.pause(rt, seat);
+}
+
+fn write_later<R: Wait + Clock>(rt: &R, lock: &TurnLock<Diary>, seat: &mut Seat<Diary>)
+    requires own { (seat.old.lock ≡ lock.now.id) × (seat.old.turn ≡ false) }
+    ensures { seat.new ≡ record seat.old { seen = seat.new.seen } }
+{
+    thread::sleep(rt, Duration::from_millis(60));
+    write_one(rt, lock, seat, 0);
+}
+
+fn both_late<R: Threads + Wait + Clock + Sync>(
+    rt: &R,
+    lock: &TurnLock<Diary>,
+    one: &mut Seat<Diary>,
+    two: &mut Seat<Diary>,
+)
+    requires { (one.old.lock ≡ lock.now.id) × (one.old.turn ≡ false) × (two.old.lock ≡ lock.now.id) × (two.old.turn ≡ false) }
+    ensures one { one.new ≡ record one.old { seen = one.new.seen } }
+    ensures two { two.new ≡ record two.old { seen = two.new.seen } }
+{
+    join_mut(
+        rt,
+        &mut || pause_late(rt, lock, one),
+        &mut || write_later(rt, lock, two),
+    );
+}
+
+// While the first seat holds the turn, the second pauses, and then the third waits for the turn.
+fn two_sleep<R: Threads + Wait + Clock + Sync>(
+    rt: &R,
+    alloc: Global,
+    diary: Diary,
+) -> Result<Diary, Unkept<Diary>>
+    requires empty { diary.entries.items ≡ [] }
+{
+    let (lock, mut first) = TurnLock::make(alloc, diary, 3)?;
+    let mut second = lock.split(&mut first);
+    let mut third = lock.split(&mut first);
+    join_mut(
+        rt,
+        &mut || hold(rt, &lock, &mut first),
+        &mut || -> ()
+            requires { (second.lock ≡ lock.id) × (second.turn ≡ false) × (third.lock ≡ lock.id) × (third.turn ≡ false) }
+        { both_late(rt, &lock, &mut second, &mut third) },
+    );
+    lock.join(&mut first, second);
+    lock.join(&mut first, third);
+    Ok(lock.close(first))
+}
+
+// A single wake would be spent on the one that pauses.
+#[test]
+fn a_release_wakes_all_who_sleep(rt: HostRuntime) -> Result<(), Fail> {
+    let diary = Diary::with_room(rt.alloc(), 5, 2)?;
+    let diary = match two_sleep(&rt, rt.alloc(), diary) {
+        Ok(diary) => diary,
+        Err(Unkept { value: _ }) => return Err("memory".into()),
+    };
+    assert!(rt; diary.has_all_of(0, 1) && diary.has_all_of(2, 1));
+    Ok(())
 }
 
 #[test]
