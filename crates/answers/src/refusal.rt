@@ -1,0 +1,86 @@
+// The refusals, in the order in which they are tested, and their statuses.
+
+ghost use Rattle.std.specs.Prelude.{◌≡◌};
+ghost use Rattle.answers.specs.Statuses.{status_of};
+
+use settings_core::Scope;
+use slice_base::Text;
+
+/// Why a job wasn't done. Meshes and triangles count from 0, words and lines from 1. The first that
+/// holds, in this order, is the answer; those of a mesh are tested mesh by mesh.
+#[derive(Drop)]
+pub enum Refusal {
+    /// That word is the first at fault.
+    BadWord { index: u64 },
+    /// There is no mesh.
+    NoInput,
+    /// There is no file to write.
+    NoOutput,
+    /// That word asks for what isn't built yet.
+    NotBuilt { index: u64 },
+    /// Reading that file failed.
+    ReadFault { name: Text },
+    /// That file has over 268,435,456 bytes.
+    TooLong { name: Text },
+    /// That file isn't a settings file.
+    NotJson { name: Text },
+    /// The first pair at fault has no value of its setting.
+    BadValue { scope: Scope, key: Text },
+    /// The first pair at fault has a value outside its setting's range.
+    OutOfRange { scope: Scope, key: Text },
+    /// That mesh is the first whose extruder the printer doesn't have.
+    UnknownExtruder { mesh: u8 },
+    /// That line of the mesh's file is the first at fault.
+    BadStl { mesh: u8, line: u32 },
+    /// The mesh has no triangle.
+    NoTriangles { mesh: u8 },
+    /// The mesh has that many facets, over 1,000,000.
+    TooManyTriangles { mesh: u8, count: u32 },
+    /// That triangle is the first with a corner outside the build volume.
+    OutsideVolume { mesh: u8, triangle: u32 },
+    /// The meshes are lower than the middle of the first layer.
+    NoLayers,
+    /// There are that many layers, over 10,000.
+    TooManyLayers { count: u32 },
+    /// There was no memory.
+    NoMemory,
+    /// The output failed.
+    WriteFault,
+    /// The job was done, and then the console failed.
+    ConsoleFault,
+}
+
+/// The status of a run: 0 done, 1 words, 2 settings, 3 content of a file or mesh, 4 reading, 5 writing,
+/// 6 memory, 7 console.
+pub fn status(refusal: &Option<Refusal>) -> u8
+    ensures { result ≡ status_of refusal.now }
+{
+    match refusal {
+        None => 0,
+        Some(
+            Refusal::BadWord { .. }
+            | Refusal::NoInput
+            | Refusal::NoOutput
+            | Refusal::NotBuilt { .. },
+        ) => 1,
+        Some(
+            Refusal::NotJson { .. }
+            | Refusal::BadValue { .. }
+            | Refusal::OutOfRange { .. }
+            | Refusal::UnknownExtruder { .. },
+        ) => 2,
+        Some(
+            Refusal::TooLong { .. }
+            | Refusal::BadStl { .. }
+            | Refusal::NoTriangles { .. }
+            | Refusal::TooManyTriangles { .. }
+            | Refusal::OutsideVolume { .. }
+            | Refusal::NoLayers
+            | Refusal::TooManyLayers { .. },
+        ) => 3,
+        Some(Refusal::ReadFault { .. }) => 4,
+        Some(Refusal::WriteFault) => 5,
+        Some(Refusal::NoMemory) => 6,
+        Some(Refusal::ConsoleFault) => 7,
+    }
+}
