@@ -3,7 +3,7 @@ use Rattle.std.specs.Ordering.{int_eq}
 use Rattle.std.proofs.lemmas.Int.{ints}
 use mathlib.Core.Bool.{beq}
 use Rattle.slice_base.specs.declared.points.Pt.{Pt}
-use Rattle.edge_cut.specs.Plane.{same_point}
+use Rattle.edge_cut.specs.Points.{same_point}
 use Rattle.edge_cut.specs.declared.passes.Marked.{Marked}
 
 int_eq-is : (a b : ℤ) → int_eq a b ≡ true → a ≡ b

@@ -7,7 +7,7 @@ use Rattle.slice_base.specs.declared.points.Pt.{Pt}
 use Rattle.slice_base.specs.declared.points.Edge.{Edge}
 use Rattle.edge_cut.specs.declared.stops.Stop.{Stop}
 use Rattle.edge_cut.specs.declared.passes.Marked.{Marked}
-use Rattle.edge_cut.specs.Plane.{same_point}
+use Rattle.edge_cut.specs.Points.{same_point}
 use Rattle.edge_cut.specs.Meeting.{meetings_of}
 use Rattle.edge_cut.specs.Stops.{stop_at, is_before, with_stop, with_points, with_meetings, stops_of}
 use Rattle.edge_cut.specs.Cut.{pieces_from, pieces_of, cut_by, pass_of, has_length, with_length_of, passes, cut_of}

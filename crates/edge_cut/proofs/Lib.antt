@@ -6,3 +6,4 @@ pub mod Within
 pub mod Lengths
 pub mod Counts
 pub mod Settled
+pub mod OperandLemmas

@@ -6,8 +6,8 @@ use Rattle.std.specs.Ordering.{int_eq}
 use Rattle.std.proofs.lemmas.Int.{to_z-of_z, ints}
 use Rattle.slice_base.specs.declared.points.Pt.{Pt}
 use Rattle.slice_base.specs.declared.points.Edge.{Edge}
-use Rattle.edge_cut.specs.Nearest.{nearest}
-use Rattle.edge_cut.specs.Plane.{cross_of, dot_of}
+use Rattle.slice_base.specs.Whole.{rounded}
+use Rattle.slice_base.specs.Plane.{cross_of, dot_of}
 use Rattle.edge_cut.specs.Meeting.{coordinate_at, is_part, point_at, part_on, part_across, turn_of, crossing_of, end_on, shared_of, meetings_of}
 use Rattle.edge_cut.proofs.Between.{coordinate_at-le, le-coordinate_at}
 
@@ -47,7 +47,7 @@ shared-yes e f turn p q et yes' ep eq = let h = rw et at yes' in rw (h, ep, eq)
 pub meetings-crossing : (e f : Edge) (turn : ℤ) (p : Option Pt) → turn ≡ turn_of e f → int_eq turn (pos 0) ≡ false → option_to_list p ≡ crossing_of e f → option_to_list p ++ [] ≡ meetings_of e f
 meetings-crossing e f turn p et none ep = let h = rw et at none in rw (h, append-nil, ep)
 
-pub coordinate_at-is : (a b s t r : ℤ) (part whole : ℕ) → r ≡ nearest (s +ℤ t) whole → s ≡ a *ℤ pos (whole - part) → t ≡ b *ℤ pos part → r ≡ coordinate_at a b part whole
+pub coordinate_at-is : (a b s t r : ℤ) (part whole : ℕ) → r ≡ rounded (s +ℤ t) whole → s ≡ a *ℤ pos (whole - part) → t ≡ b *ℤ pos part → r ≡ coordinate_at a b part whole
 coordinate_at-is a b s t r part whole er es et = rw (er, es, et)
 
 pub narrowed : (r : ℤ) → FitsSigned w128 r → FitsSigned w32 r → to_z w32 (of_z w32 (to_z w128 (of_z w128 r))) ≡ r

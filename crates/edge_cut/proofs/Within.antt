@@ -6,7 +6,8 @@ use Rattle.slice_base.specs.declared.points.Pt.{Pt}
 use Rattle.slice_base.specs.declared.points.Edge.{Edge}
 use Rattle.edge_cut.specs.declared.stops.Stop.{Stop}
 use Rattle.edge_cut.specs.declared.passes.Marked.{Marked}
-use Rattle.edge_cut.specs.Plane.{same_point, cross_of}
+use Rattle.slice_base.specs.Plane.{cross_of}
+use Rattle.edge_cut.specs.Points.{same_point}
 use Rattle.edge_cut.specs.Meeting.{is_part, is_beside, end_on, point_at, shared_of, crossing_of, meetings_of, turn_of, part_on, part_across}
 use Rattle.edge_cut.specs.Stops.{stop_at, is_before, with_stop, with_points, with_meetings, stops_of}
 use Rattle.edge_cut.specs.Cut.{pieces_from, pieces_of, cut_by, pass_of, has_length, with_length_of, passes, cut_of}

@@ -7,7 +7,7 @@ use Rattle.edge_cut.specs.declared.passes.Marked.{Marked}
 use Rattle.edge_cut.specs.declared.passes.Pieces.{Pieces}
 use Rattle.edge_cut.specs.declared.cutting.CutFault.{CutFault}
 use Rattle.edge_cut.specs.declared.cutting.CutFault.TheVariants.{TooTangled, NoMemory}
-use Rattle.edge_cut.specs.Plane.{same_point}
+use Rattle.edge_cut.specs.Points.{same_point}
 use Rattle.edge_cut.specs.Stops.{stops_of}
 
 -- the edges from p on through these stops

@@ -1,6 +1,6 @@
-pub mod Nearest
-pub mod Plane
+pub mod Points
 pub mod Meeting
 pub mod Stops
 pub mod Cut
 pub mod Boxes
+pub mod Operands

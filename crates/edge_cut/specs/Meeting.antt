@@ -5,8 +5,8 @@ use Rattle.std.specs.Int.RustNames.{unsigned_abs}
 use Rattle.slice_base.specs.declared.points.Pt.{Pt}
 use Rattle.slice_base.specs.declared.points.Edge.{Edge}
 use Rattle.edge_cut.specs.declared.crossings.Met.{Met}
-use Rattle.edge_cut.specs.Plane.{cross_of}
-use Rattle.edge_cut.specs.Nearest.{nearest}
+use Rattle.slice_base.specs.Plane.{cross_of}
+use Rattle.slice_base.specs.Whole.{rounded}
 
 -- x lies between a and b, ends included
 abbrev pub is_between : ℤ → ℤ → ℤ → Bool
@@ -18,7 +18,7 @@ is_part part whole = is_between (pos 0) part whole
 
 -- the coordinate at part / whole of the way from a to b, rounded
 abbrev pub coordinate_at : ℤ → ℤ → ℕ → ℕ → ℤ
-coordinate_at a b part whole = nearest (a *ℤ pos (whole - part) +ℤ b *ℤ pos part) whole
+coordinate_at a b part whole = rounded (a *ℤ pos (whole - part) +ℤ b *ℤ pos part) whole
 
 -- the point at part / whole of the way along e, each coordinate rounded
 abbrev pub point_at : Edge → ℕ → ℕ → Pt

@@ -5,7 +5,8 @@ use Rattle.slice_base.specs.declared.points.Pt.{Pt}
 use Rattle.slice_base.specs.declared.points.Edge.{Edge}
 use Rattle.edge_cut.specs.declared.stops.Stop.{Stop}
 use Rattle.edge_cut.specs.declared.passes.Marked.{Marked}
-use Rattle.edge_cut.specs.Plane.{same_point, dot_of}
+use Rattle.slice_base.specs.Plane.{dot_of}
+use Rattle.edge_cut.specs.Points.{same_point}
 use Rattle.edge_cut.specs.Meeting.{meetings_of}
 
 -- the point, and how far along e it stands

@@ -2,7 +2,7 @@
 
 ghost use Rattle.std.specs.Prelude.{◌≡◌, ◌<◌, ◌≤◌, [], ℕ, length, filter, IfOk, Ok, Err, MatchResult, true};
 ghost use Rattle.std.specs.List.{AllPass};
-ghost use Rattle.edge_cut.specs.Plane.{same_point};
+ghost use Rattle.edge_cut.specs.Points.{same_point};
 ghost use Rattle.edge_cut.specs.Cut.{has_length, with_length_of, pass_of, cut_of, IsCutFault, GoesOn, EndsWith};
 ghost use Rattle.edge_cut.specs.Boxes.{Box, EdgesIn};
 

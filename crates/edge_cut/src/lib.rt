@@ -12,7 +12,7 @@ mod stops;
 
 pub use crossings::{Met, meeting};
 pub use cutting::{CutFault, cut};
-pub use laws::stays_cut;
+pub use laws::{is_cut_alike, is_cut_exchanged, stays_cut};
 pub use passes::Marked;
 pub use plane::{cross, dot, is_same};
 

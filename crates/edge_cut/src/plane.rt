@@ -1,10 +1,10 @@
 // Points and vectors without bounds: any coordinates of 32 bits, determinants in 128.
 
-ghost use Rattle.std.specs.Prelude.{◌≡◌, ◌+◌, ◌-◌, ◌*◌, ◌/◌, ◌<◌, ◌≤◌, ◌^◌, ◌&&◌, pos, ◌<ℤ◌, ◌+ℤ◌, ◌-ℤ◌, ◌*ℤ◌};
+ghost use Rattle.std.specs.Prelude.{◌≡◌, ◌≤◌, ◌^◌, ◌&&◌, ◌+ℤ◌, ◌-ℤ◌, ◌*ℤ◌};
 ghost use Rattle.std.specs.Ordering.{int_eq};
 ghost use Rattle.std.specs.Int.RustNames.{unsigned_abs};
-ghost use Rattle.edge_cut.specs.Nearest.{nearest_nat, nearest};
-ghost use Rattle.edge_cut.specs.Plane.{same_point, cross_of, dot_of};
+ghost use Rattle.slice_base.specs.Plane.{cross_of, dot_of};
+ghost use Rattle.edge_cut.specs.Points.{same_point};
 
 use slice_base::Pt;
 
@@ -13,30 +13,6 @@ pub fn is_same(p: Pt, q: Pt) -> bool
     ensures { result ≡ same_point p q }
 {
     p.x == q.x && p.y == q.y
-}
-
-fn divide_to_nearest(n: u128, d: u128) -> u128
-    requires positive { 0 < d }
-    requires small { n < 2 ^ 127 }
-    ensures { result ≡ nearest_nat n d }
-{
-    let quotient = n / d;
-    let rest = n % d;
-    if rest >= d - rest {
-        quotient + 1
-    } else {
-        quotient
-    }
-}
-
-// The quotient rounded to nearest, half away from zero.
-pub(crate) fn quotient(n: i128, d: i128) -> i128
-    requires positive { pos 0 <ℤ d }
-    requires small { unsigned_abs n < 2 ^ 126 }
-    ensures { result ≡ nearest n (unsigned_abs d) }
-{
-    let magnitude = divide_to_nearest(n.unsigned_abs(), d.unsigned_abs()) as i128;
-    if n < 0 { -magnitude } else { magnitude }
 }
 
 // The way from one coordinate to another.

@@ -2,7 +2,7 @@
 
 ghost use Rattle.std.specs.Prelude.{◌≡◌, ◌+◌, ◌*◌, ◌≤◌, ◌&&◌, ◌||◌, length, OnOk, int_lt, option_to_list};
 ghost use Rattle.std.specs.Ordering.{int_eq};
-ghost use Rattle.edge_cut.specs.Plane.{same_point};
+ghost use Rattle.edge_cut.specs.Points.{same_point};
 ghost use Rattle.edge_cut.specs.Meeting.{meetings_of};
 ghost use Rattle.edge_cut.specs.Stops.{stop_at, is_before, with_stop, with_points, stops_of};
 
