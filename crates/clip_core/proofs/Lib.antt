@@ -1,0 +1,6 @@
+pub mod Tallies
+pub mod Sides
+pub mod Sizes
+pub mod Reach
+pub mod Answered
+pub mod Exchanged

@@ -1,0 +1,21 @@
+// Clips regions against each other. What goes in are one or two regions; what comes out is the region
+// at whose points the winding numbers pass a rule, which is `clipped_of` of `specs/Clip.antt`, or the
+// number of edges where there are too many.
+#![tactic(auto)]
+
+mod bundles;
+mod clipping;
+mod keeping;
+mod laws;
+mod outlines;
+mod tidying;
+mod windings;
+
+pub use bundles::Bundle;
+pub use clipping::{Rule, clean, meet, subtract, unite};
+pub use keeping::Operation;
+pub use laws::{cancelled_goes, is_kept_exchanged, nothing_without_itself, sides_differ_by_net};
+pub use windings::Windings;
+
+#[cfg(test)]
+mod tests;
