@@ -1,4 +1,5 @@
 pub mod Unmarked
+pub mod Index
 pub mod Walks
 pub mod Links
 pub mod Counts

@@ -1,3 +1,4 @@
 pub mod Link
 pub mod Marked
+pub mod Unused
 pub mod Counts

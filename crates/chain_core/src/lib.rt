@@ -4,6 +4,7 @@
 
 mod chains;
 mod marks;
+mod unused;
 mod walk;
 
 pub use chains::{Chains, link};
