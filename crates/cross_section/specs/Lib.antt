@@ -1,3 +1,6 @@
 pub mod Heights
 pub mod Section
 pub mod Box
+pub mod Planes
+pub mod Place
+pub mod Moves

@@ -1,12 +1,17 @@
-// Sections: the triangles of a mesh go in, the directed edges of the outlines in which a level plane cuts
-// it come out. The result is exactly `section_of` of `specs/Section.antt`.
+// Sections: triangles and the settings go in; the triangles in their place, the planes of the layers and
+// the directed edges of the outlines in which a plane cuts a mesh come out. The results are exactly those
+// of `placed`, `plane_of` and `section_of` in `specs/`.
 #![tactic(auto)]
 
 mod cutting;
 mod mesh;
+mod placing;
+mod planes;
 
 pub use cutting::section;
 pub use mesh::{Mesh, mesh_of};
+pub use placing::{OutsideVolume, put_in_place};
+pub use planes::{layer_count, plane};
 
 #[cfg(test)]
 mod tests;
