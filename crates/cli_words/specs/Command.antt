@@ -1,6 +1,6 @@
 -- The command that a list of words gives, or the first fault of it. A word is the list of its bytes.
-use Rattle.std.specs.Prelude.{ℕ, ◌+◌, ◌==◌, count_by, Bool, true, false, cond, ◌&&◌, List, [], ◌∷◌, ◌++◌, Option, Some, None, Result, Ok, Err, bytes_eq, codes, option_to_list}
-use Rattle.std.specs.List.{fold}
+use Rattle.std.specs.Prelude.{ℕ, ◌+◌, ◌<◌, ◌≤◌, ◌==◌, count_by, Bool, true, false, cond, ◌&&◌, List, [], ◌∷◌, ◌++◌, length, Option, Some, None, IsSome, Result, Ok, Err, bytes_eq, codes, option_to_list}
+use Rattle.std.specs.List.{All, fold}
 use Rattle.settings_core.specs.declared.pairs.Scope.{Scope}
 use Rattle.settings_core.specs.declared.pairs.Scope.TheVariants as scope
 use Rattle.settings_core.specs.declared.pairs.Given.TheVariants.{Words}
@@ -136,3 +136,23 @@ names_of (command.Slice t) = task_names t
 names_of (command.Serial t) = task_names t
 names_of (command.Check t) = task_names t
 names_of (command.Gen n name) = name ∷ []
+
+-- the extruders given with the meshes of items, in order
+abbrev pub item_extruders : List Item → List ℕ
+item_extruders [] = []
+item_extruders (item.Pair p ∷ is) = item_extruders is
+item_extruders (item.Settings name ∷ is) = item_extruders is
+item_extruders (item.Mesh name e ∷ is) = e ∷ item_extruders is
+
+-- a task has 1 to 16 meshes, each with an extruder below 8
+pub record IsTask (t : Task) : Type 0 where
+  pub some : 0 < length (item_extruders t.items)
+  pub few : length (item_extruders t.items) ≤ 16
+  pub below_eight : All (λ e. e < 8) (item_extruders t.items)
+
+-- a task is one, and one that writes has a file to write
+abbrev pub IsSound : Command → Type 0
+IsSound (command.Slice t) = IsTask t × IsSome t.out
+IsSound (command.Serial t) = IsTask t × IsSome t.out
+IsSound (command.Check t) = IsTask t
+IsSound (command.Gen n name) = Unit {0}

@@ -4,7 +4,7 @@ ghost use Rattle.std.specs.Prelude.{◌≡◌, ◌↔◌, ◌⊎◌, ◌≢◌, 
 ghost use Rattle.std.specs.List.{All};
 ghost use Rattle.std.specs.Str.{IsUtf8};
 ghost use Rattle.cli_words.specs.Choices.{choices_of};
-ghost use Rattle.cli_words.specs.Command.{kind_of, task_command, needs_output, task_if, gen_file, gen_output, gen_of, command_of, names_of};
+ghost use Rattle.cli_words.specs.Command.{kind_of, task_command, needs_output, task_if, gen_file, gen_output, gen_of, command_of, names_of, IsSound};
 ghost use Rattle.cli_words.specs.Answer.{Gives};
 
 use crate::choice::number_of;
@@ -144,6 +144,7 @@ pub fn read_words(alloc: Global, words: &[String]) -> Result<Command, WordFault>
     ensures no_output { (result ≡ Err WordFault.NoOutput) ↔ (command_of (map string_bytes words.now) ≡ Err WordFault.NoOutput) }
     ensures no_memory { result ≡ Err WordFault.NoMemory → IsOk (command_of (map string_bytes words.now)) }
     ensures names { IfOk result (λ c. All IsUtf8 (names_of c)) }
+    ensures sound { IfOk result IsSound }
 {
     read_command(alloc, words)
 }
