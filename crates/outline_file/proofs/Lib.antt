@@ -1,0 +1,4 @@
+pub mod Puts
+pub mod Walks
+pub mod Texts
+pub mod Files

@@ -1,0 +1,4 @@
+pub mod Lines
+pub mod Layers
+pub mod Outline
+pub mod Written

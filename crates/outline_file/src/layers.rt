@@ -1,0 +1,138 @@
+// The outlines of meshes.
+
+ghost use Rattle.std.specs.Prelude.{◌≡◌, ◌+◌, ◌*◌, ◌<◌, ◌≤◌, ◌^◌, ◌++◌, ◌⊎◌, ℕ, Err, length, map, fold, IfOk, OnOk, Result};
+ghost use Rattle.std.specs.Int.{int_max};
+ghost use Rattle.std.specs.List.{All};
+ghost use Rattle.settings_core.specs.Valid.{IsPrintInRange};
+ghost use Rattle.cross_section.specs.Heights.{top_of};
+ghost use Rattle.cross_section.specs.Planes.{plane_of};
+ghost use Rattle.outline_file.specs.Layers.{top_of_all, stitched_at, loops_at, open_at, outlines_of, OutlinesGive};
+
+use crate::answers::{MOST_LAYERS, OutlineFault, Outlines};
+use cross_section::{Mesh, layer_count, plane, section};
+use settings_core::Settings;
+use slice_base::{Items, NoMemory, Region};
+use std::alloc::Global;
+use stitch_core::{Stitched, stitch};
+
+// The loops of all meshes at one height, and how many chains stayed open there.
+#[derive(Drop)]
+struct Layer {
+    loops: Region,
+    open: u64,
+}
+
+// The greatest of a height and the tops of meshes, in µm.
+fn raised(top: i32, meshes: &[Mesh]) -> i32
+    requires { All (λ m. 0 < length m) meshes.now }
+    ensures { result ≡ fold int_max top (map top_of meshes.now) }
+{
+    let mut top = top;
+    for mesh in meshes {
+        top = top.max(mesh.top());
+    }
+    top
+}
+
+// The greatest height of all meshes, in µm.
+fn greatest_top(meshes: &[Mesh]) -> i32
+    requires some { 0 < length meshes.now }
+    requires each { All (λ m. 0 < length m) meshes.now }
+    ensures { result ≡ top_of_all meshes.now }
+{
+    raised(meshes[0].top(), &meshes[1..])
+}
+
+// The section of a mesh at a height, stitched.
+fn stitch_section(alloc: Global, mesh: &Mesh, z: i32) -> Result<Stitched, NoMemory>
+    requires { length mesh.now < 2 ^ 32 }
+    ensures { IfOk result (λ s. s ≡ stitched_at z mesh.now) }
+{
+    let edges = section(alloc, mesh, z)?;
+    stitch(alloc, edges.as_slice())
+}
+
+// Puts the loops of a region behind those of another.
+fn append(alloc: Global, loops: &mut Region, more: Region) -> Result<(), NoMemory>
+    ensures { OnOk result (loops.new ≡ loops.old ++ more) }
+{
+    if loops.loops().is_empty() {
+        *loops = more;
+        return Ok(());
+    }
+    for l in more.loops() {
+        loops.push(l.copy(alloc)?)?;
+    }
+    Ok(())
+}
+
+// The layer at a height.
+fn layer_at(alloc: Global, meshes: &[Mesh], z: i32) -> Result<Layer, NoMemory>
+    requires few { length meshes.now ≤ 16 }
+    requires each { All (λ m. length m < 2 ^ 32) meshes.now }
+    ensures loops { IfOk result (λ l. l.loops ≡ loops_at z meshes.now) }
+    ensures opened { IfOk result (λ l. l.open ≡ open_at z meshes.now) }
+    ensures small { IfOk result (λ l. l.open ≤ 16 * 2 ^ 32) }
+{
+    let mut loops = Region::new(alloc);
+    let mut open = 0u64;
+    for mesh in meshes {
+        let stitched = stitch_section(alloc, mesh, z)?;
+        open += u64::from(stitched.dropped);
+        append(alloc, &mut loops, stitched.loops)?;
+    }
+    Ok(Layer { loops, open })
+}
+
+// The outlines of so many layers.
+fn all_layers(
+    alloc: Global,
+    settings: &Settings,
+    meshes: &[Mesh],
+    count: u32,
+) -> Result<Outlines, NoMemory>
+    requires in_range { IsPrintInRange settings.now }
+    requires planes { (k : ℕ) → k < count → plane_of settings.now k < 2 ^ 31 }
+    requires few_layers { count ≤ 10000 }
+    requires few { length meshes.now ≤ 16 }
+    requires each { All (λ m. length m < 2 ^ 32) meshes.now }
+    ensures outlines { IfOk result (λ o. o ≡ outlines_of settings.now meshes.now count) }
+    ensures counted { IfOk result (λ o. length o.layers ≡ count) }
+{
+    let mut layers = Items::new(alloc);
+    let mut open = 0u64;
+    for k in 0..count {
+        let layer = layer_at(alloc, meshes, plane(settings, k) as i32)?;
+        open += layer.open;
+        layers.push(layer.loops)?;
+    }
+    Ok(Outlines { open, layers })
+}
+
+/// The outlines of meshes in place, in the order of the meshes in each layer, or `NoLayers` or
+/// `TooManyLayers` exactly where there are no layers or over 10,000, or `NoMemory`.
+pub fn outlines(
+    alloc: Global,
+    settings: &Settings,
+    meshes: &[Mesh],
+) -> Result<Outlines, OutlineFault>
+    requires in_range { IsPrintInRange settings.now }
+    requires some { 0 < length meshes.now }
+    requires few { length meshes.now ≤ 16 }
+    requires each_some { All (λ m. 0 < length m) meshes.now }
+    requires each_few { All (λ m. length m < 2 ^ 32) meshes.now }
+    ensures says { (result ≡ Err OutlineFault.NoMemory) ⊎ OutlinesGive settings.now meshes.now result }
+
+    // They give one answer, so it is the result unless memory ran out.
+    ensures one { (a : Result Outlines OutlineFault) → OutlinesGive settings.now meshes.now a → (result ≡ a) ⊎ (result ≡ Err OutlineFault.NoMemory) }
+    ensures few_layers { IfOk result (λ o. length o.layers ≤ 10000) }
+{
+    let count = layer_count(settings, greatest_top(meshes));
+    if count == 0 {
+        return Err(OutlineFault::NoLayers);
+    }
+    if count > MOST_LAYERS {
+        return Err(OutlineFault::TooManyLayers { count });
+    }
+    Ok(all_layers(alloc, settings, meshes, count)?)
+}

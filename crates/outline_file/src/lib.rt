@@ -1,0 +1,13 @@
+// Outlines: settings and meshes in place go in, the outlines of all layers come out, and then the file
+// of these outlines. They are `outlines_of` of `specs/Layers.antt`, and the file is `file_of` of
+// `specs/Outline.antt`.
+#![tactic(auto)]
+
+mod answers;
+mod layers;
+mod lines;
+mod writing;
+
+pub use answers::{MOST_LAYERS, OutlineFault, Outlines};
+pub use layers::outlines;
+pub use writing::write_file;
