@@ -2,6 +2,13 @@
 // that the console gets, as `specs/` says.
 #![tactic(auto)]
 
+mod pieces;
 mod refusal;
+mod run;
+mod saying;
+#[cfg(test)]
+mod tests;
 
 pub use refusal::{Refusal, status};
+pub use run::Run;
+pub use saying::{put_done, put_refusal};

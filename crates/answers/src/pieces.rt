@@ -1,0 +1,69 @@
+// Texts that are put piece by piece.
+
+ghost use Rattle.std.specs.Prelude.{◌≡◌, ◌++◌, codes, decimal, OnOk, OnErr};
+ghost use Rattle.outside.specs.Output.{Put, PutFront};
+ghost use Rattle.answers.specs.Said.{scope_text};
+
+use outside::{Sink, put_all};
+use settings_core::Scope;
+use slice_base::Failed;
+
+// Two texts, one after the other.
+pub(crate) fn put_two<S: Sink>(console: &mut S, first: &[u8], second: &[u8]) -> Result<(), Failed>
+    ensures ok { OnOk result (Put (S.output console.old) (first.now ++ second.now) (S.output console.new)) }
+    ensures err { OnErr result (PutFront (S.output console.old) (first.now ++ second.now) (S.output console.new)) }
+{
+    put_all(console, first)?;
+    put_all(console, second)
+}
+
+// A text, and a number behind it.
+pub(crate) fn put_number<S: Sink>(console: &mut S, text: &[u8], n: u64) -> Result<(), Failed>
+    ensures ok { OnOk result (Put (S.output console.old) (text.now ++ decimal n) (S.output console.new)) }
+    ensures err { OnErr result (PutFront (S.output console.old) (text.now ++ decimal n) (S.output console.new)) }
+{
+    let mut digits = itoa::Buffer::new();
+    put_two(console, text, digits.format(n).as_bytes())
+}
+
+// Two texts, each with a number behind it.
+pub(crate) fn put_numbers<S: Sink>(
+    console: &mut S,
+    first: &[u8],
+    m: u64,
+    second: &[u8],
+    n: u64,
+) -> Result<(), Failed>
+    ensures ok { OnOk result (Put (S.output console.old) (first.now ++ decimal m ++ second.now ++ decimal n) (S.output console.new)) }
+    ensures err { OnErr result (PutFront (S.output console.old) (first.now ++ decimal m ++ second.now ++ decimal n) (S.output console.new)) }
+{
+    put_number(console, first, m)?;
+    put_number(console, second, n)
+}
+
+// What a pair speaks of.
+fn put_scope<S: Sink>(console: &mut S, scope: Scope) -> Result<(), Failed>
+    ensures ok { OnOk result (Put (S.output console.old) (scope_text scope) (S.output console.new)) }
+    ensures err { OnErr result (PutFront (S.output console.old) (scope_text scope) (S.output console.new)) }
+{
+    match scope {
+        Scope::Global => put_all(console, b"global"),
+        Scope::Extruder(n) => put_number(console, b"extruder ", u64::from(n)),
+        Scope::Mesh(i) => put_number(console, b"mesh ", u64::from(i)),
+    }
+}
+
+// A text, and a key with its scope behind it.
+pub(crate) fn put_key<S: Sink>(
+    console: &mut S,
+    text: &[u8],
+    scope: Scope,
+    key: &[u8],
+) -> Result<(), Failed>
+    ensures ok { OnOk result (Put (S.output console.old) (text.now ++ scope_text scope ++ codes " " ++ key.now) (S.output console.new)) }
+    ensures err { OnErr result (PutFront (S.output console.old) (text.now ++ scope_text scope ++ codes " " ++ key.now) (S.output console.new)) }
+{
+    put_all(console, text)?;
+    put_scope(console, scope)?;
+    put_two(console, b" ", key)
+}
