@@ -2,3 +2,5 @@ pub mod Puts
 pub mod Walks
 pub mod Texts
 pub mod Files
+pub mod Sections
+pub mod Counts

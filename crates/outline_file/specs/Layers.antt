@@ -28,16 +28,16 @@ loops_at z [] = []
 loops_at z (mesh ∷ meshes) = (stitched_at z mesh).loops ++ loops_at z meshes
 
 -- how many chains of all meshes stay open at a height
-abbrev pub open_at : ℤ → List (List Tri) → ℕ
-open_at z [] = 0
-open_at z (mesh ∷ meshes) = (stitched_at z mesh).dropped + open_at z meshes
+abbrev pub dropped_at : ℤ → List (List Tri) → ℕ
+dropped_at z [] = 0
+dropped_at z (mesh ∷ meshes) = (stitched_at z mesh).dropped + dropped_at z meshes
 
 -- the loops of layer k, and how many chains stay open in it
 abbrev pub layer_of : Settings → List (List Tri) → ℕ → List (List Pt)
 layer_of s meshes k = loops_at (pos (plane_of s k)) meshes
 
 abbrev pub dropped_in : Settings → List (List Tri) → ℕ → ℕ
-dropped_in s meshes k = open_at (pos (plane_of s k)) meshes
+dropped_in s meshes k = dropped_at (pos (plane_of s k)) meshes
 
 -- the layers below number n, and how many chains stay open in them
 abbrev pub first_layers : Settings → List (List Tri) → ℕ → List (List (List Pt))

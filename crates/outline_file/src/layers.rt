@@ -6,7 +6,7 @@ ghost use Rattle.std.specs.List.{All};
 ghost use Rattle.settings_core.specs.Valid.{IsPrintInRange};
 ghost use Rattle.cross_section.specs.Heights.{top_of};
 ghost use Rattle.cross_section.specs.Planes.{plane_of};
-ghost use Rattle.outline_file.specs.Layers.{top_of_all, stitched_at, loops_at, open_at, outlines_of, OutlinesGive};
+ghost use Rattle.outline_file.specs.Layers.{top_of_all, stitched_at, loops_at, dropped_at, outlines_of, OutlinesGive};
 
 use crate::answers::{MOST_LAYERS, OutlineFault, Outlines};
 use cross_section::{Mesh, layer_count, plane, section};
@@ -19,7 +19,7 @@ use stitch_core::{Stitched, stitch};
 #[derive(Drop)]
 struct Layer {
     loops: Region,
-    open: u64,
+    dropped: u64,
 }
 
 // The greatest of a height and the tops of meshes, in µm.
@@ -71,17 +71,17 @@ fn layer_at(alloc: Global, meshes: &[Mesh], z: i32) -> Result<Layer, NoMemory>
     requires few { length meshes.now ≤ 16 }
     requires each { All (λ m. length m < 2 ^ 32) meshes.now }
     ensures loops { IfOk result (λ l. l.loops ≡ loops_at z meshes.now) }
-    ensures opened { IfOk result (λ l. l.open ≡ open_at z meshes.now) }
-    ensures small { IfOk result (λ l. l.open ≤ 16 * 2 ^ 32) }
+    ensures dropped { IfOk result (λ l. l.dropped ≡ dropped_at z meshes.now) }
+    ensures small { IfOk result (λ l. l.dropped ≤ 16 * 2 ^ 32) }
 {
     let mut loops = Region::new(alloc);
-    let mut open = 0u64;
+    let mut dropped = 0u64;
     for mesh in meshes {
         let stitched = stitch_section(alloc, mesh, z)?;
-        open += u64::from(stitched.dropped);
+        dropped += u64::from(stitched.dropped);
         append(alloc, &mut loops, stitched.loops)?;
     }
-    Ok(Layer { loops, open })
+    Ok(Layer { loops, dropped })
 }
 
 // The outlines of so many layers.
@@ -100,13 +100,16 @@ fn all_layers(
     ensures counted { IfOk result (λ o. length o.layers ≡ count) }
 {
     let mut layers = Items::new(alloc);
-    let mut open = 0u64;
+    let mut dropped = 0u64;
     for k in 0..count {
         let layer = layer_at(alloc, meshes, plane(settings, k) as i32)?;
-        open += layer.open;
+        dropped += layer.dropped;
         layers.push(layer.loops)?;
     }
-    Ok(Outlines { open, layers })
+    Ok(Outlines {
+        open: dropped,
+        layers,
+    })
 }
 
 /// The outlines of meshes in place, in the order of the meshes in each layer, or `NoLayers` or
