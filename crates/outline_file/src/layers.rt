@@ -22,13 +22,13 @@ struct Layer {
     dropped: u64,
 }
 
-// The greatest of a height and the tops of meshes, in µm.
-fn raised(top: i32, meshes: &[Mesh]) -> i32
-    requires { All (λ m. 0 < length m) meshes.now }
-    ensures { result ≡ fold int_max top (map top_of meshes.now) }
+// The greatest of a height and the tops of other meshes, in µm.
+fn raised(top: i32, others: &[Mesh]) -> i32
+    requires { All (λ m. 0 < length m) others.now }
+    ensures { result ≡ fold int_max top (map top_of others.now) }
 {
     let mut top = top;
-    for mesh in meshes {
+    for mesh in others {
         top = top.max(mesh.top());
     }
     top

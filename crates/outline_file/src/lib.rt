@@ -6,6 +6,8 @@
 mod answers;
 mod layers;
 mod lines;
+#[cfg(test)]
+mod tests;
 mod writing;
 
 pub use answers::{MOST_LAYERS, OutlineFault, Outlines};

@@ -78,11 +78,7 @@ fn put_layer<S: Sink>(
 }
 
 // All layers, from number 0 on.
-fn put_layers<S: Sink>(
-    sink: &mut S,
-    settings: &Settings,
-    layers: &[Region],
-) -> Result<(), Failed>
+fn put_layers<S: Sink>(sink: &mut S, settings: &Settings, layers: &[Region]) -> Result<(), Failed>
     requires in_range { IsPrintInRange settings.now }
     requires few { length layers.now ≤ 10000 }
     ensures ok { OnOk result (Put (S.output sink.old) (layers_text settings.now 0 layers.now) (S.output sink.new)) }
@@ -107,11 +103,7 @@ fn put_header<S: Sink>(sink: &mut S, open_count: u64, n: u32) -> Result<(), Fail
 }
 
 // The whole file.
-fn put_file<S: Sink>(
-    sink: &mut S,
-    settings: &Settings,
-    outlines: &Outlines,
-) -> Result<(), Failed>
+fn put_file<S: Sink>(sink: &mut S, settings: &Settings, outlines: &Outlines) -> Result<(), Failed>
     requires in_range { IsPrintInRange settings.now }
     requires few { length outlines.now.layers ≤ 10000 }
     ensures ok { OnOk result (Put (S.output sink.old) (file_of settings.now outlines.now) (S.output sink.new)) }

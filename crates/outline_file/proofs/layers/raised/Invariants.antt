@@ -5,4 +5,4 @@ use Rattle.cross_section.specs.Heights.{top_of}
 use Rattle.outline_file.proofs.layers.raised.Given as goal
 
 abbrev pub invariant-loop-mesh : goal.invariant-loop-mesh
-invariant-loop-mesh l = fold int_max l.top (map top_of (drop l.mesh-index l.meshes)) ≡ fold int_max l.initial.top (map top_of l.meshes)
+invariant-loop-mesh l = fold int_max l.top (map top_of (drop l.mesh-index l.others)) ≡ fold int_max l.initial.top (map top_of l.others)
