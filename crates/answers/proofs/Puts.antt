@@ -1,13 +1,9 @@
 -- Puts one after another, in a sink that may tell what it holds.
-use Rattle.std.proofs.Common.{ℕ, ◌≡◌, ◌+◌, List, [], ◌++◌, length, take, Option, Some, None, ap, sym, refl, subst, ◌∙◌, arith, Result, Ok, Err, OnOk, OnErr}
-use Rattle.std.proofs.lemmas.List.{append_assoc, append-nil, length-append, take-append-le}
+use Rattle.std.proofs.Common.{ℕ, ◌≡◌, ◌+◌, List, ◌++◌, length, take, Option, Some, None, ap, sym, refl, subst, ◌∙◌, arith, Result, Ok, Err, OnOk, OnErr}
+use Rattle.std.proofs.lemmas.List.{append_assoc, length-append, take-append-le}
 use Rattle.std.proofs.Math.Seq.{take-append-add}
 use Rattle.outside.specs.Holding.{Gained, GainedFront}
 use Rattle.outside.specs.Output.{Output, OnlyPut, Put, PutFront}
-
-Gained-none : (held : Option (List ℕ)) → Gained held [] held
-Gained-none None = refl
-Gained-none (Some held) = ap Some (sym (append-nil held))
 
 Gained-append : (before mid after : Option (List ℕ)) (xs ys : List ℕ) → Gained before xs mid → Gained mid ys after → Gained before (xs ++ ys) after
 Gained-append None mid after xs ys first then = rw first at then
@@ -29,16 +25,6 @@ GainedFront-more before after xs ys front = record {
   held = rw (take-append-le front.taken xs ys front.within) front.held;
 }
 
-OnlyPut-none : (a : Output) → OnlyPut a a
-OnlyPut-none a = record {
-  name = refl;
-  begun = refl;
-  begins = refl;
-  ends = refl;
-  held_at_end = refl;
-  faults = omega arith;
-}
-
 OnlyPut-then : (a b c : Output) → OnlyPut a b → OnlyPut b c → OnlyPut a c
 OnlyPut-then a b c p q = record {
   name = q.name ∙ p.name;
@@ -48,9 +34,6 @@ OnlyPut-then a b c p q = record {
   held_at_end = q.held_at_end ∙ p.held_at_end;
   faults = omega (arith, p.faults, q.faults);
 }
-
-pub Put-none : (a : Output) → Put a [] a
-Put-none a = record { held = Gained-none a.content; kept = OnlyPut-none a }
 
 pub Put-append : (a b c : Output) (xs ys : List ℕ) → Put a xs b → Put b ys c → Put a (xs ++ ys) c
 Put-append a b c xs ys p q = record {
@@ -81,17 +64,6 @@ pub front-later : (a b c : Output) (xs ys rest whole : List ℕ) → xs ++ ys ++
 front-later a b c xs ys rest whole same p q = front-first a c (xs ++ ys) rest whole same (PutFront-after a b c xs ys p q)
 
 -- where the last call put the last text, what it answered is the answer of the whole
-pub then-ok : {T E : Type 0} (r : Result T E) (a b c : Output) (xs ys whole : List ℕ) → xs ++ ys ≡ whole → Put a xs b → OnOk r (Put b ys c) → OnOk r (Put a whole c)
-then-ok (Ok x) a b c xs ys whole same p q = subst (λ text. Put a text c) same (Put-append a b c xs ys p q)
-then-ok (Err e) a b c xs ys whole same p q = q
-
 pub then-err : {T E : Type 0} (r : Result T E) (a b c : Output) (xs ys whole : List ℕ) → xs ++ ys ≡ whole → Put a xs b → OnErr r (PutFront b ys c) → OnErr r (PutFront a whole c)
 then-err (Ok x) a b c xs ys whole same p q = q
 then-err (Err e) a b c xs ys whole same p q = subst (λ text. PutFront a text c) same (PutFront-after a b c xs ys p q)
-
--- the same text by another name
-pub as-ok : {T E : Type 0} (r : Result T E) (a b : Output) (xs ys : List ℕ) → xs ≡ ys → OnOk r (Put a xs b) → OnOk r (Put a ys b)
-as-ok r a b xs ys same p = subst (λ text. OnOk r (Put a text b)) same p
-
-pub as-err : {T E : Type 0} (r : Result T E) (a b : Output) (xs ys : List ℕ) → xs ≡ ys → OnErr r (PutFront a xs b) → OnErr r (PutFront a ys b)
-as-err r a b xs ys same p = subst (λ text. OnErr r (PutFront a text b)) same p

@@ -1,11 +1,11 @@
 // The outlines of meshes.
 
-ghost use Rattle.std.specs.Prelude.{◌≡◌, ◌+◌, ◌*◌, ◌<◌, ◌≤◌, ◌^◌, ◌++◌, ◌⊎◌, ℕ, Err, length, map, fold, IfOk, OnOk, Result};
+ghost use Rattle.std.specs.Prelude.{◌≡◌, ◌+◌, ◌*◌, ◌<◌, ◌≤◌, ◌^◌, ◌++◌, ◌⊎◌, ◌↔◌, ℕ, Err, length, map, fold, IfOk, OnOk, Result};
 ghost use Rattle.std.specs.Int.{int_max};
 ghost use Rattle.std.specs.List.{All};
 ghost use Rattle.settings_core.specs.Valid.{IsPrintInRange};
 ghost use Rattle.cross_section.specs.Heights.{top_of};
-ghost use Rattle.cross_section.specs.Planes.{plane_of};
+ghost use Rattle.cross_section.specs.Planes.{plane_of, IsLayerCount};
 ghost use Rattle.outline_file.specs.Layers.{top_of_all, stitched_at, loops_at, dropped_at, outlines_of, OutlinesGive};
 
 use crate::answers::{MOST_LAYERS, OutlineFault, Outlines};
@@ -112,8 +112,8 @@ fn all_layers(
     })
 }
 
-/// The outlines of meshes in place, in the order of the meshes in each layer, or `NoLayers` or
-/// `TooManyLayers` exactly where there are no layers or over 10,000, or `NoMemory`.
+/// The outlines of meshes in place, in each layer those of one mesh after those of the other. That there
+/// are no layers, or over 10,000, is found before memory is wanted.
 pub fn outlines(
     alloc: Global,
     settings: &Settings,
@@ -128,6 +128,8 @@ pub fn outlines(
 
     // They give one answer, so it is the result unless memory ran out.
     ensures one { (a : Result Outlines OutlineFault) → OutlinesGive settings.now meshes.now a → (result ≡ a) ⊎ (result ≡ Err OutlineFault.NoMemory) }
+    ensures no_layers { (result ≡ Err OutlineFault.NoLayers) ↔ IsLayerCount settings.now (top_of_all meshes.now) 0 }
+    ensures too_many { (n : ℕ) → (result ≡ Err (OutlineFault.TooManyLayers n)) ↔ (IsLayerCount settings.now (top_of_all meshes.now) n × (10000 < n)) }
     ensures few_layers { IfOk result (λ o. length o.layers ≤ 10000) }
 {
     let count = layer_count(settings, greatest_top(meshes));
