@@ -3,11 +3,15 @@
 // itself is told before.
 #![tactic(auto)]
 
+#[cfg(test)]
+mod boxes;
 mod help;
 #[cfg(test)]
 mod help_tests;
 #[cfg(test)]
 mod meshes;
+#[cfg(test)]
+mod plates;
 #[cfg(test)]
 mod tests;
 mod words;

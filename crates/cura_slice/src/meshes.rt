@@ -1,4 +1,5 @@
-// Meshes, and the files of their outlines as worked out by hand from the rules.
+// Meshes, and the files of their outlines: given by a second program that was written from the rules
+// alone, and checked by hand.
 
 // Corners (0,0,0), (10,0,0), (0,10,0) and (0,0,0.3) mm.
 pub(crate) const TETRA: &[u8] = b"solid tetra
@@ -34,6 +35,7 @@ endsolid tetra
 ";
 
 pub(crate) const TETRA_FILE: &[u8] = b";FLAVOR:Marlin
+;OPEN_OUTLINES:0
 G21
 G90
 ;LAYER_COUNT:1
@@ -107,6 +109,7 @@ endsolid
 ";
 
 pub(crate) const TWO_FILE: &[u8] = b";FLAVOR:Marlin
+;OPEN_OUTLINES:0
 G21
 G90
 ;LAYER_COUNT:4
@@ -227,6 +230,7 @@ endsolid plate
 ";
 
 pub(crate) const PLATE_FILE: &[u8] = b";FLAVOR:Marlin
+;OPEN_OUTLINES:0
 G21
 G90
 ;LAYER_COUNT:2
@@ -315,6 +319,7 @@ endsolid
 ";
 
 pub(crate) const CAVITY_FILE: &[u8] = b";FLAVOR:Marlin
+;OPEN_OUTLINES:0
 G21
 G90
 ;LAYER_COUNT:2

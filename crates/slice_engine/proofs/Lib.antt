@@ -1,7 +1,2 @@
-pub mod Puts
-pub mod Walks
-pub mod Texts
-pub mod Files
-pub mod Volume
-pub mod Outcomes
-pub mod Planes
+pub mod Words
+pub mod Plans

@@ -1,65 +1,85 @@
 -- What each answer says.
-use Rattle.std.specs.Prelude.{ℕ, ◌≡◌, ◌≤◌, List, ◌⊎◌, Option, Some, None}
-use Rattle.slice_base.specs.Causes.{Rose, counted}
+use Rattle.std.specs.Prelude.{ℕ, ◌≡◌, ◌≤◌, ◌+◌, List, length, ◌⊎◌, Option, Some, None, Result, Ok, Err, IsOk}
 use Rattle.outside.specs.Store.{Store}
-use Rattle.outside.specs.Output.{Output}
-use Rattle.slice_engine.specs.declared.answers.Refusal.{Refusal}
-use Rattle.slice_engine.specs.declared.answers.Refusal.TheVariants.{NotBuilt, ReadFault, WriteFault, NoMemory}
+use Rattle.outside.specs.Output.{Output, Put, PutFront}
+use Rattle.answers.specs.declared.refusal.Refusal.{Refusal}
+use Rattle.answers.specs.declared.refusal.Refusal.TheVariants as refusal
+use Rattle.answers.specs.Said.{said_done, said_refusal}
+use Rattle.cli_words.specs.declared.command.Command.{Command}
+use Rattle.cli_words.specs.declared.command.Command.TheVariants.{Slice, Serial, Check, Gen}
+use Rattle.cli_words.specs.declared.command.Task.{Task}
+use Rattle.cli_words.specs.declared.command.WordFault.{WordFault}
+use Rattle.cli_words.specs.Command.{command_of}
+use Rattle.plate_input.specs.Answers.{FailedRead, ReadsFew}
+use Rattle.outline_file.specs.Outline.{file_of}
+use Rattle.outline_file.specs.Written.{Wrote, BrokeOff}
 use Rattle.slice_engine.specs.declared.jobs.Job.{Job}
-use Rattle.slice_engine.specs.Words.{fault_of, mesh_name}
-use Rattle.slice_engine.specs.Job.{DefinesJob, IsNotBuilt}
-use Rattle.slice_engine.specs.Outline.{file_of}
-use Rattle.slice_engine.specs.Written.{Wrote, BrokeOff}
+use Rattle.slice_engine.specs.Job.{JobGives, TaskGives}
 
--- the status of an answer
-abbrev pub status_of : Option Refusal → ℕ
-status_of None = 0
-status_of (Some (NotBuilt n)) = 1
-status_of (Some (ReadFault name)) = 4
-status_of (Some WriteFault) = 5
-status_of (Some NoMemory) = 6
+-- No file was changed, and no more were read than the command names; none at all where the words are at
+-- fault or ask for what isn't built.
+abbrev pub CommandReads : Result Command WordFault → Store → Store → Type 0
+CommandReads (Ok (Serial task)) before after = ReadsFew task.items before after
+CommandReads (Ok (Slice task)) before after = after ≡ before
+CommandReads (Ok (Check task)) before after = after ≡ before
+CommandReads (Ok (Gen n name)) before after = after ≡ before
+CommandReads (Err f) before after = after ≡ before
 
--- the words have no fault, and the one read of this call, of the mesh, failed
-pub record FailedRead (words : List (List ℕ)) (name : List ℕ) (before after : Store) : Type 0 where
-  pub faultless : fault_of words ≡ None
-  pub mesh : name ≡ mesh_name words
-  pub last_failed : after.last_failed ≡ Some name
-  pub reads : after.reads ≡ counted before.reads
-  pub cause : Rose before.faults after.faults
+abbrev pub WordsRead : List (List ℕ) → Store → Store → Type 0
+WordsRead words before after = CommandReads (command_of words) before after
 
--- no file was changed; none was read where a word is at fault, and else one at most
-abbrev pub reads_at_most : Option ℕ → ℕ → ℕ → Type 0
-reads_at_most None before after = (after ≡ before) ⊎ (after ≡ counted before)
-reads_at_most (Some n) before after = after ≡ before
+-- the words have no fault, and the read of one of their files failed
+abbrev pub HasFailedRead : Result Command WordFault → List ℕ → Store → Store → Type 0
+HasFailedRead (Ok (Serial task)) name before after = FailedRead task.items name before after
+HasFailedRead (Ok (Slice task)) name before after = ⊥
+HasFailedRead (Ok (Check task)) name before after = ⊥
+HasFailedRead (Ok (Gen n name')) name before after = ⊥
+HasFailedRead (Err f) name before after = ⊥
 
-pub record ReadsFew (words : List (List ℕ)) (before after : Store) : Type 0 where
-  pub files : after.files ≡ before.files
-  pub reads : reads_at_most (fault_of words) before.reads after.reads
-  pub later : before.faults ≤ after.faults
+-- what a planned job, or a refusal, says of words and files
+abbrev pub SaysPlanned : Result Job Refusal → (Result Job Refusal → Type 0) → (List ℕ → Type 0) → Type 0 → Type 0
+SaysPlanned (Ok job) gives failed_read faultless = gives (Ok job)
+SaysPlanned (Err (refusal.ReadFault name)) gives failed_read faultless = failed_read name
+SaysPlanned (Err refusal.NoMemory) gives failed_read faultless = faultless
+SaysPlanned (Err r) gives failed_read faultless = gives (Err r)
 
--- what a refusal says that came before the sink was begun
-abbrev pub SaysUnread : Refusal → List (List ℕ) → Store → Store → Type 0
-SaysUnread (NotBuilt n) words before after = IsNotBuilt words before.files n
-SaysUnread (ReadFault name) words before after = FailedRead words name before after
-SaysUnread WriteFault words before after = ⊥
-SaysUnread NoMemory words before after = fault_of words ≡ None
+abbrev pub SaysTask : Result Job Refusal → Task → Store → Store → Type 0
+SaysTask answer task before after = SaysPlanned answer (TaskGives task before.files) (λ name. FailedRead task.items name before after) (Unit {0})
+
+abbrev pub SaysJob : Result Job Refusal → List (List ℕ) → Store → Store → Type 0
+SaysJob answer words before after = SaysPlanned answer (JobGives words before.files) (λ name. HasFailedRead (command_of words) name before after) (IsOk (command_of words))
+
+-- the console got the line of a refusal, or where it failed a front of it
+abbrev pub SaidRefusal : Refusal → Output → Output → Type 0
+SaidRefusal r before after = Put before (said_refusal r) after ⊎ PutFront before (said_refusal r) after
 
 -- the sink holds exactly the file of the job that words and files define
-pub record WroteJob (words : List (List ℕ)) (files : Option (List (List ℕ × List ℕ))) (before after : Output) : Type 0 where
-  pub job : Job
-  pub defined : DefinesJob words files job
-  pub wrote : Wrote job.output (file_of job.layers) before after
+pub record WroteJob (words : List (List ℕ)) (files : Option (List (List ℕ × List ℕ))) (job : Job) (before after : Output) : Type 0 where
+  pub defined : JobGives words files (Ok job)
+  pub wrote : Wrote job.output (file_of job.settings job.outlines) before after
 
--- the sink failed while the job that words and files define was written
-pub record BrokeOffJob (words : List (List ℕ)) (files : Option (List (List ℕ × List ℕ))) (before after : Output) : Type 0 where
-  pub job : Job
-  pub defined : DefinesJob words files job
-  pub broke_off : BrokeOff job.output (file_of job.layers) before after
+-- the sink failed while that job was written
+pub record BrokeOffJob (words : List (List ℕ)) (files : Option (List (List ℕ × List ℕ))) (job : Job) (before after : Output) : Type 0 where
+  pub defined : JobGives words files (Ok job)
+  pub broke_off : BrokeOff job.output (file_of job.settings job.outlines) before after
 
--- what an answer says of the words, the shelf and the sink
-abbrev pub Says : Option Refusal → List (List ℕ) → Store → Store → Output → Output → Type 0
-Says None words shelf shelf_after sink sink_after = WroteJob words shelf.files sink sink_after
-Says (Some (NotBuilt n)) words shelf shelf_after sink sink_after = IsNotBuilt words shelf.files n × (sink_after ≡ sink)
-Says (Some (ReadFault name)) words shelf shelf_after sink sink_after = FailedRead words name shelf shelf_after × (sink_after ≡ sink)
-Says (Some WriteFault) words shelf shelf_after sink sink_after = BrokeOffJob words shelf.files sink sink_after
-Says (Some NoMemory) words shelf shelf_after sink sink_after = (fault_of words ≡ None) × (sink_after ≡ sink)
+-- what was written, by how many layers or the refusal
+abbrev pub SaysWritten : Result ℕ Refusal → List (List ℕ) → Store → Store → Output → Output → Type 0
+SaysWritten (Ok n) words shelf shelf_after sink sink_after = (job : Job) × WroteJob words shelf.files job sink sink_after × (n ≡ length job.outlines.layers)
+SaysWritten (Err refusal.WriteFault) words shelf shelf_after sink sink_after = (job : Job) × BrokeOffJob words shelf.files job sink sink_after
+SaysWritten (Err r) words shelf shelf_after sink sink_after = SaysJob (Err r) words shelf shelf_after × (sink_after ≡ sink)
+
+-- What the console got of how a run ended, and the answer that this makes. Where the console fails behind a
+-- refusal, the refusal stays.
+abbrev pub Tells : Result ℕ Refusal → Option Refusal → Output → Output → Type 0
+Tells (Ok n) None before after = Put before (said_done n) after
+Tells (Ok n) (Some r) before after = (r ≡ refusal.ConsoleFault) × PutFront before (said_done n) after
+Tells (Err r) None before after = ⊥
+Tells (Err r) (Some told) before after = (told ≡ r) × SaidRefusal r before after
+
+-- what an answer says of the words, the shelf, the sink and the console: by what was written, or the refusal,
+-- and by what the console got of it
+pub record Says (answer : Option Refusal) (words : List (List ℕ)) (shelf shelf_after : Store) (sink sink_after console console_after : Output) : Type 0 where
+  pub ended : Result ℕ Refusal
+  pub written : SaysWritten ended words shelf shelf_after sink sink_after
+  pub told : Tells ended answer console console_after

@@ -1,10 +1,13 @@
 // Jobs.
 
-use slice_base::{Items, Region, Text};
+use outline_file::Outlines;
+use settings_core::Settings;
+use slice_base::Text;
 
-/// What is to be written: the layers' loops from the bed up, in µm, and the name of the output.
+/// What is to be written: the outlines of a print, with its settings, and the name of the output.
 #[derive(Drop)]
 pub struct Job {
     pub output: Text,
-    pub layers: Items<Region>,
+    pub settings: Settings,
+    pub outlines: Outlines,
 }

@@ -1,21 +1,14 @@
-// The top call: words and files go in, an answer and the file of a mesh's outlines come out. What the
-// file holds is `file_of` of the layers that the words and the files define, and a refusal names its
-// cause.
+// The top call: words and files go in, an answer, the file of the meshes' outlines and the console's line
+// come out. What words and files define is `JobGives` of `specs/Job.antt`, a job or its first refusal;
+// what an answer says of the shelf, the output and the console is `Says` of `specs/Answers.antt`.
 #![tactic(auto)]
 
-mod answers;
-mod heights;
 mod jobs;
-mod layers;
-mod lines;
-mod reading;
+mod planning;
+mod telling;
 mod top;
-mod words;
-mod writing;
 
 pub use answers::{Refusal, Run};
-pub use heights::{FIRST_HEIGHT, HEIGHT, MOST_BYTES, VOLUME};
 pub use jobs::Job;
-pub use reading::read_job;
+pub use planning::plan_job;
 pub use top::still_top;
-pub use writing::write_file;

@@ -1,47 +1,66 @@
 // The top call.
 
-ghost use Rattle.std.specs.Prelude.{◌≡◌, ◌⊎◌, ℕ, List, Option, Some, None, map, string_bytes};
+ghost use Rattle.std.specs.Prelude.{ℕ, ◌≡◌, ◌⊎◌, ◌↔◌, List, Option, Some, None, Ok, Err, IsOk, map, string_bytes};
 ghost use Rattle.slice_base.specs.Causes.{Rose};
-ghost use Rattle.slice_engine.specs.declared.answers.Refusal.TheVariants.{NotBuilt, NoMemory};
+ghost use Rattle.answers.specs.declared.refusal.Refusal.{Refusal};
+ghost use Rattle.answers.specs.declared.refusal.Refusal.TheVariants as refusal;
+ghost use Rattle.answers.specs.Statuses.{status_of};
+ghost use Rattle.cli_words.specs.declared.command.WordFault.{WordFault};
+ghost use Rattle.cli_words.specs.declared.command.WordFault.TheVariants as fault;
+ghost use Rattle.cli_words.specs.Command.{command_of};
 ghost use Rattle.slice_engine.specs.declared.jobs.Job.{Job};
-ghost use Rattle.slice_engine.specs.Words.{fault_of};
-ghost use Rattle.slice_engine.specs.Job.{DefinesJob, IsNotBuilt};
-ghost use Rattle.slice_engine.specs.Answers.{status_of, Says, ReadsFew};
+ghost use Rattle.slice_engine.specs.Job.{JobGives, word_refusal};
+ghost use Rattle.slice_engine.specs.Answers.{WordsRead, SaysWritten, Says};
 
-use crate::answers::{Refusal, Run};
 use crate::jobs::Job;
-use crate::reading::read_job;
-use crate::writing::write_file;
+use crate::planning::plan_job;
+use crate::telling::tell;
+use answers::{Refusal, Run};
+use outline_file::write_file;
 use outside::{Shelf, Sink};
 use std::alloc::Global;
 
-// Reads the job and writes it. The answer is the refusal, or none where the file was written.
-fn read_and_write<Sh: Shelf, Si: Sink>(
+// Plans the job and writes it. The answer is the number of its layers, or the refusal.
+fn plan_and_write<Sh: Shelf, Si: Sink>(
     alloc: Global,
     words: &[String],
     shelf: &mut Sh,
     sink: Si,
-) -> (Option<Refusal>, Si)
-    ensures says { Says result.0 (map string_bytes words.now) (Sh.store shelf.old) (Sh.store shelf.new) (Si.output sink) (Si.output result.1) }
-    ensures reads { ReadsFew (map string_bytes words.now) (Sh.store shelf.old) (Sh.store shelf.new) }
-    ensures word { (n : ℕ) → fault_of (map string_bytes words.now) ≡ Some n → result.0 ≡ Some (NotBuilt n) }
+) -> (Result<u32, Refusal>, Si)
+    ensures says { SaysWritten result.0 (map string_bytes words.now) (Sh.store shelf.old) (Sh.store shelf.new) (Si.output sink) (Si.output result.1) }
+    ensures word { (f : WordFault) → command_of (map string_bytes words.now) ≡ Err f → result.0 ≡ Err (word_refusal f) }
+    ensures complete { (files : List (List ℕ × List ℕ)) (job : Job) → (Sh.store shelf.old).files ≡ Some files
+        → JobGives (map string_bytes words.now) (Some files) (Ok job)
+        → ¬ (Rose (Sh.store shelf.old).faults (Sh.store shelf.new).faults) → ¬ (Rose (Si.output sink).faults (Si.output result.1).faults)
+        → IsOk result.0 ⊎ (result.0 ≡ Err refusal.NoMemory) }
+    ensures refused { (files : List (List ℕ × List ℕ)) (r : Refusal) → (Sh.store shelf.old).files ≡ Some files
+        → JobGives (map string_bytes words.now) (Some files) (Err r)
+        → ¬ (Rose (Sh.store shelf.old).faults (Sh.store shelf.new).faults)
+        → (result.0 ≡ Err r) ⊎ (result.0 ≡ Err refusal.NoMemory) }
+    ensures reads { WordsRead (map string_bytes words.now) (Sh.store shelf.old) (Sh.store shelf.new) }
 {
-    let job = match read_job(alloc, words, shelf) {
+    let job = match plan_job(alloc, words, shelf) {
         Ok(job) => job,
-        Err(refusal) => return (Some(refusal), sink),
+        Err(refusal) => return (Err(refusal), sink),
     };
-    let Job { output, layers } = job;
+    let Job {
+        output,
+        settings,
+        outlines,
+    } = job;
     let mut sink = sink;
-    match write_file(&mut sink, output, layers.items()) {
-        Ok(()) => (None, sink),
-        Err(_) => (Some(Refusal::WriteFault), sink),
+    match write_file(&mut sink, output, &settings, &outlines) {
+        Ok(()) => (Ok(outlines.layers.items().len() as u32), sink),
+        Err(_) => (Err(Refusal::WriteFault), sink),
     }
 }
 
-/// Does the job that the words and the files define, in one thread: reads the words, reads and slices
-/// the mesh, and writes the file of its layers to the sink, which is handed back.
+/// Does what the words and the files of the shelf define, in one thread: reads the words, then all
+/// files in the order of the words, resolves the settings, puts the meshes in place, cuts all layers,
+/// writes the file to the sink, which is handed back, and tells the console in one line how it ended.
 ///
-/// The words are `serial -l <mesh> -o <output>`. The console isn't used.
+/// A refusal is the first in the order of `Refusal`. With every refusal but `WriteFault` and
+/// `ConsoleFault` the sink is as before. Of the commands `serial` is built.
 pub fn still_top<Sh: Shelf, Si: Sink, Co: Sink>(
     alloc: Global,
     words: &[String],
@@ -51,29 +70,31 @@ pub fn still_top<Sh: Shelf, Si: Sink, Co: Sink>(
 ) -> (Run, Si)
     ensures status { result.0.status ≡ status_of result.0.refusal }
 
-    // What the answer says of the words, the shelf and the sink.
-    ensures says { Says result.0.refusal (map string_bytes words.now) (Sh.store shelf.old) (Sh.store shelf.new) (Si.output sink) (Si.output result.1) }
+    // What the answer says of the words, the shelf, the sink and the console.
+    ensures says { Says result.0.refusal (map string_bytes words.now) (Sh.store shelf.old) (Sh.store shelf.new) (Si.output sink) (Si.output result.1) (Co.output console.old) (Co.output console.new) }
 
-    // A word at fault is the answer, always.
-    ensures word { (n : ℕ) → fault_of (map string_bytes words.now) ≡ Some n → result.0.refusal ≡ Some (NotBuilt n) }
+    // Words at fault are the answer, always and nowhere else.
+    ensures bad_word { (n : ℕ) → (result.0.refusal ≡ Some (refusal.BadWord n)) ↔ (command_of (map string_bytes words.now) ≡ Err (fault.BadWord n)) }
+    ensures no_input { (result.0.refusal ≡ Some refusal.NoInput) ↔ (command_of (map string_bytes words.now) ≡ Err fault.NoInput) }
+    ensures no_output { (result.0.refusal ≡ Some refusal.NoOutput) ↔ (command_of (map string_bytes words.now) ≡ Err fault.NoOutput) }
 
-    // Where the told files define a job and nothing failed, the file is written, unless memory ran out.
+    // Where told files define a job and nothing failed, the file is written, unless memory ran out.
     ensures complete { (files : List (List ℕ × List ℕ)) (job : Job) → (Sh.store shelf.old).files ≡ Some files
-        → DefinesJob (map string_bytes words.now) (Some files) job
+        → JobGives (map string_bytes words.now) (Some files) (Ok job)
         → ¬ (Rose (Sh.store shelf.old).faults (Sh.store shelf.new).faults) → ¬ (Rose (Si.output sink).faults (Si.output result.1).faults)
-        → (result.0.refusal ≡ None) ⊎ (result.0.refusal ≡ Some NoMemory) }
+        → ¬ (Rose (Co.output console.old).faults (Co.output console.new).faults)
+        → (result.0.refusal ≡ None) ⊎ (result.0.refusal ≡ Some refusal.NoMemory) }
 
     // Where they define a refusal and no read failed, that is the answer, unless memory ran out.
-    ensures refused { (files : List (List ℕ × List ℕ)) (n : ℕ) → (Sh.store shelf.old).files ≡ Some files
-        → IsNotBuilt (map string_bytes words.now) (Some files) n
+    ensures refused { (files : List (List ℕ × List ℕ)) (r : Refusal) → (Sh.store shelf.old).files ≡ Some files
+        → JobGives (map string_bytes words.now) (Some files) (Err r)
         → ¬ (Rose (Sh.store shelf.old).faults (Sh.store shelf.new).faults)
-        → (result.0.refusal ≡ Some (NotBuilt n)) ⊎ (result.0.refusal ≡ Some NoMemory) }
+        → (result.0.refusal ≡ Some r) ⊎ (result.0.refusal ≡ Some refusal.NoMemory) }
 
-    // One file is read at most, none where a word is at fault, and the console is as before.
-    ensures reads { ReadsFew (map string_bytes words.now) (Sh.store shelf.old) (Sh.store shelf.new) }
-    ensures console { Co.output console.new ≡ Co.output console.old }
+    // No file is changed, and no more are read than the words name; none where the words are at fault.
+    ensures reads { WordsRead (map string_bytes words.now) (Sh.store shelf.old) (Sh.store shelf.new) }
 {
-    let _ = console;
-    let (refusal, sink) = read_and_write(alloc, words, shelf, sink);
+    let (ended, sink) = plan_and_write(alloc, words, shelf, sink);
+    let refusal = tell(console, ended);
     (Run::of(refusal), sink)
 }

@@ -1,0 +1,111 @@
+-- What words alone give.
+use Rattle.std.proofs.Common.{ℕ, ◌≡◌, List, Option, Some, None, ◌⊎◌, Result, Ok, Err, refl, sym, ◌∙◌, ap, subst, inl, inr}
+use Rattle.std.specs.Prelude.{IsSome, option_to_list, ◌++◌, IsOk}
+use Rattle.std.specs.List.{All}
+use Rattle.std.proofs.lemmas.List.Elements.{All-tail}
+use Rattle.answers.specs.declared.refusal.Refusal.{Refusal}
+use Rattle.answers.specs.declared.refusal.Refusal.TheVariants as refusal
+use Rattle.cli_words.specs.declared.command.Command.{Command}
+use Rattle.cli_words.specs.declared.command.Command.TheVariants.{Slice, Serial, Check, Gen}
+use Rattle.cli_words.specs.declared.command.WordFault.{WordFault}
+use Rattle.cli_words.specs.declared.command.WordFault.TheVariants as fault
+use Rattle.outline_file.specs.declared.answers.OutlineFault.{OutlineFault}
+use Rattle.outline_file.specs.declared.answers.OutlineFault.TheVariants as outline
+use Rattle.slice_engine.specs.declared.jobs.Job.{Job}
+use Rattle.slice_engine.specs.Job.{WordsGive, IsWordsAnswer, CommandGives, word_refusal, outline_refusal, HasUnfitPlate}
+use Rattle.slice_engine.specs.Answers.{SaysPlanned}
+
+-- a name in front of others
+pub behind_output : (P : List ℕ → Type 0) (out : Option (List ℕ)) (names : List (List ℕ)) → IsSome out → All P (option_to_list out ++ names) → All P names
+behind_output P (Some name) names some h = All-tail P name names h
+behind_output P None names some h = absurd (cc some)
+
+-- words that want memory have no fault, and others give their refusal
+pub words_refused : (command : Result Command WordFault) (f : WordFault) → (f ≡ fault.NoMemory → IsOk command)
+    → ((n : ℕ) → f ≡ fault.BadWord n → command ≡ Err (fault.BadWord n)) → (f ≡ fault.NoInput → command ≡ Err fault.NoInput) → (f ≡ fault.NoOutput → command ≡ Err fault.NoOutput)
+    → ((word_refusal f ≡ refusal.NoMemory) × IsOk command) ⊎ WordsGive command (word_refusal f)
+words_refused command (fault.BadWord n) memory bad input output = inr (subst (λ c. WordsGive c (refusal.BadWord n)) (sym (bad n refl)) refl)
+words_refused command fault.NoInput memory bad input output = inr (subst (λ c. WordsGive c refusal.NoInput) (sym (input refl)) refl)
+words_refused command fault.NoOutput memory bad input output = inr (subst (λ c. WordsGive c refusal.NoOutput) (sym (output refl)) refl)
+words_refused command fault.NoMemory memory bad input output = inl (refl, memory refl)
+
+says_as : (gives : Result Job Refusal → Type 0) (failed : List ℕ → Type 0) (faultless : Type 0) (r x : Refusal) → r ≡ x → SaysPlanned (Err x) gives failed faultless → SaysPlanned (Err r) gives failed faultless
+says_as gives failed faultless r x e says = subst (λ y. SaysPlanned (Err y) gives failed faultless) (sym e) says
+
+-- what is said of words that give a refusal
+pub says_words : (command : Result Command WordFault) (r : Refusal) (files : Option (List (List ℕ × List ℕ))) (failed : List ℕ → Type 0)
+    → ((r ≡ refusal.NoMemory) × IsOk command) ⊎ WordsGive command r → SaysPlanned (Err r) (CommandGives command files) failed (IsOk command)
+says_words command r files failed (inl want) = says_as (CommandGives command files) failed (IsOk command) r refusal.NoMemory want.0 want.1
+says_words (Ok (Serial task)) r files failed (inr g) = absurd g
+says_words (Ok (Slice task)) r files failed (inr g) = says_as (CommandGives (Ok (Slice task)) files) failed (IsOk {T = Command} {E = WordFault} (Ok (Slice task))) r (refusal.NotBuilt 1) g refl
+says_words (Ok (Check task)) r files failed (inr g) = says_as (CommandGives (Ok (Check task)) files) failed (IsOk {T = Command} {E = WordFault} (Ok (Check task))) r (refusal.NotBuilt 1) g refl
+says_words (Ok (Gen n name)) r files failed (inr g) = says_as (CommandGives (Ok (Gen n name)) files) failed (IsOk {T = Command} {E = WordFault} (Ok (Gen n name))) r (refusal.NotBuilt 1) g refl
+says_words (Err (fault.BadWord n)) r files failed (inr g) = says_as (CommandGives (Err (fault.BadWord n)) files) failed (IsOk {T = Command} {E = WordFault} (Err (fault.BadWord n))) r (refusal.BadWord n) g refl
+says_words (Err fault.NoInput) r files failed (inr g) = says_as (CommandGives (Err fault.NoInput) files) failed (IsOk {T = Command} {E = WordFault} (Err fault.NoInput)) r refusal.NoInput g refl
+says_words (Err fault.NoOutput) r files failed (inr g) = says_as (CommandGives (Err fault.NoOutput) files) failed (IsOk {T = Command} {E = WordFault} (Err fault.NoOutput)) r refusal.NoOutput g refl
+says_words (Err fault.NoMemory) r files failed (inr g) = absurd g
+
+same_answer : (command : Result Command WordFault) (r : Refusal) (answer : Result Job Refusal) → ((x : Refusal) → WordsGive command x → r ≡ x) → IsWordsAnswer command answer → Err r ≡ answer
+same_answer command r (Ok job) one h = absurd h
+same_answer command r (Err x) one h = ap Err (one x h)
+
+-- words give one refusal, whatever the files are
+pub words_only : (command : Result Command WordFault) (r : Refusal) (files : Option (List (List ℕ × List ℕ))) (answer : Result Job Refusal) → WordsGive command r → CommandGives command files answer → Err r ≡ answer
+words_only (Ok (Serial task)) r files answer g h = absurd g
+words_only (Ok (Slice task)) r files answer g h = same_answer (Ok (Slice task)) r answer (λ x e. g ∙ sym e) h
+words_only (Ok (Check task)) r files answer g h = same_answer (Ok (Check task)) r answer (λ x e. g ∙ sym e) h
+words_only (Ok (Gen n name)) r files answer g h = same_answer (Ok (Gen n name)) r answer (λ x e. g ∙ sym e) h
+words_only (Err (fault.BadWord n)) r files answer g h = same_answer (Err (fault.BadWord n)) r answer (λ x e. g ∙ sym e) h
+words_only (Err fault.NoInput) r files answer g h = same_answer (Err fault.NoInput) r answer (λ x e. g ∙ sym e) h
+words_only (Err fault.NoOutput) r files answer g h = same_answer (Err fault.NoOutput) r answer (λ x e. g ∙ sym e) h
+words_only (Err fault.NoMemory) r files answer g h = absurd g
+
+-- no plate is unfit by its words, the output or the console
+no_bad_word : (n : ℕ) (f : OutlineFault) → refusal.BadWord n ≡ outline_refusal f → ⊥
+no_bad_word n outline.NoLayers e = cc
+no_bad_word n (outline.TooManyLayers m) e = cc
+no_bad_word n outline.NoMemory e = cc
+
+no_lack_of_input : (f : OutlineFault) → refusal.NoInput ≡ outline_refusal f → ⊥
+no_lack_of_input outline.NoLayers e = cc
+no_lack_of_input (outline.TooManyLayers m) e = cc
+no_lack_of_input outline.NoMemory e = cc
+
+no_lack_of_output : (f : OutlineFault) → refusal.NoOutput ≡ outline_refusal f → ⊥
+no_lack_of_output outline.NoLayers e = cc
+no_lack_of_output (outline.TooManyLayers m) e = cc
+no_lack_of_output outline.NoMemory e = cc
+
+-- where such a refusal is defined, it is that of the words
+pub bad_word_of : (command : Result Command WordFault) (files : Option (List (List ℕ × List ℕ))) (n : ℕ) → CommandGives command files (Err (refusal.BadWord n)) → command ≡ Err (fault.BadWord n)
+bad_word_of (Ok (Serial task)) files n (inl p) = absurd p.settled
+bad_word_of (Ok (Serial task)) files n (inr u) = absurd (no_bad_word n u.cause u.named)
+bad_word_of (Ok (Slice task)) files n e = cc
+bad_word_of (Ok (Check task)) files n e = cc
+bad_word_of (Ok (Gen m name)) files n e = cc
+bad_word_of (Err (fault.BadWord m)) files n e = cc
+bad_word_of (Err fault.NoInput) files n e = cc
+bad_word_of (Err fault.NoOutput) files n e = cc
+bad_word_of (Err fault.NoMemory) files n e = absurd e
+
+pub no_input_of : (command : Result Command WordFault) (files : Option (List (List ℕ × List ℕ))) → CommandGives command files (Err refusal.NoInput) → command ≡ Err fault.NoInput
+no_input_of (Ok (Serial task)) files (inl p) = absurd p.settled
+no_input_of (Ok (Serial task)) files (inr u) = absurd (no_lack_of_input u.cause u.named)
+no_input_of (Ok (Slice task)) files e = cc
+no_input_of (Ok (Check task)) files e = cc
+no_input_of (Ok (Gen m name)) files e = cc
+no_input_of (Err (fault.BadWord m)) files e = cc
+no_input_of (Err fault.NoInput) files e = refl
+no_input_of (Err fault.NoOutput) files e = cc
+no_input_of (Err fault.NoMemory) files e = absurd e
+
+pub no_output_of : (command : Result Command WordFault) (files : Option (List (List ℕ × List ℕ))) → CommandGives command files (Err refusal.NoOutput) → command ≡ Err fault.NoOutput
+no_output_of (Ok (Serial task)) files (inl p) = absurd p.settled
+no_output_of (Ok (Serial task)) files (inr u) = absurd (no_lack_of_output u.cause u.named)
+no_output_of (Ok (Slice task)) files e = cc
+no_output_of (Ok (Check task)) files e = cc
+no_output_of (Ok (Gen m name)) files e = cc
+no_output_of (Err (fault.BadWord m)) files e = cc
+no_output_of (Err fault.NoInput) files e = cc
+no_output_of (Err fault.NoOutput) files e = refl
+no_output_of (Err fault.NoMemory) files e = absurd e
