@@ -1,6 +1,6 @@
 -- What the section's edges are like.
 use Rattle.std.proofs.Common.{◌≡◌, ◌≢◌, ℕ, suc, ℤ, pos, ◌≤ℤ◌, ◌<ℤ◌, ◌-ℤ◌, Bool, true, false, cond, not, ◌&&◌, List, [], ◌∷◌, length, Option, Some, None, ◌≤◌, ◌++◌, drop, append-nil, refl, arith, sym, ap, subst, ◌∙◌}
-use Rattle.std.specs.List.{All, cons_option}
+use Rattle.std.specs.List.{All, cons_option, filter_map}
 use Rattle.std.specs.Ordering.{int_eq}
 use Rattle.std.proofs.lemmas.Int.{ints}
 use Rattle.std.proofs.lemmas.List.{drop_all}
@@ -111,11 +111,11 @@ tri-holds box plane t e h is = joined-holds box (falling plane t) (rising plane 
 pub section-holds : (box : Box) (ts : List Tri) (plane : ℤ) → All (HoldsTri box) ts → All (HoldsEdge box) (section_of ts plane)
 section-holds box ts plane h = All-section (HoldsEdge box) (HoldsTri box) plane (λ t e q is. tri-holds box plane t e q is) ts h
 
-section_end : (es : List Edge) (ts : List Tri) (i : ℕ) (plane : ℤ) → length ts ≤ i → es ++ section_of (drop i ts) plane ≡ section_of ts plane → es ≡ section_of ts plane
-section_end es ts i plane past e = rw (drop_all i ts past, append-nil) at e
+section_end : (f : ℕ → Option Edge) (es : List Edge) (ts : List Tri) (ks : List ℕ) (i : ℕ) (plane : ℤ) → length ks ≤ i → es ++ filter_map f (drop i ks) ≡ section_of ts plane → es ≡ section_of ts plane
+section_end f es ts ks i plane past e = rw (drop_all i ks past, append-nil) at e
 
-pub section_end-length : (es : List Edge) (ts : List Tri) (i : ℕ) (plane : ℤ) → length ts ≤ i → es ++ section_of (drop i ts) plane ≡ section_of ts plane → All (λ e. e.from ≢ e.to) es
-section_end-length es ts i plane past e = subst (λ (xs : List Edge). All (λ e. e.from ≢ e.to) xs) (sym (section_end es ts i plane past e)) (section-length ts plane)
+pub section_end-length : (f : ℕ → Option Edge) (es : List Edge) (ts : List Tri) (ks : List ℕ) (i : ℕ) (plane : ℤ) → length ks ≤ i → es ++ filter_map f (drop i ks) ≡ section_of ts plane → All (λ e. e.from ≢ e.to) es
+section_end-length f es ts ks i plane past e = subst (λ (xs : List Edge). All (λ e. e.from ≢ e.to) xs) (sym (section_end f es ts ks i plane past e)) (section-length ts plane)
 
-pub section_end-holds : (box : Box) (es : List Edge) (ts : List Tri) (i : ℕ) (plane : ℤ) → length ts ≤ i → es ++ section_of (drop i ts) plane ≡ section_of ts plane → All (HoldsTri box) ts → All (HoldsEdge box) es
-section_end-holds box es ts i plane past e h = subst (λ (xs : List Edge). All (HoldsEdge box) xs) (sym (section_end es ts i plane past e)) (section-holds box ts plane h)
+pub section_end-holds : (box : Box) (f : ℕ → Option Edge) (es : List Edge) (ts : List Tri) (ks : List ℕ) (i : ℕ) (plane : ℤ) → length ks ≤ i → es ++ filter_map f (drop i ks) ≡ section_of ts plane → All (HoldsTri box) ts → All (HoldsEdge box) es
+section_end-holds box f es ts ks i plane past e h = subst (λ (xs : List Edge). All (HoldsEdge box) xs) (sym (section_end f es ts ks i plane past e)) (section-holds box ts plane h)

@@ -5,3 +5,4 @@ pub mod Tops
 pub mod Places
 pub mod Layers
 pub mod Outsides
+pub mod Filed

@@ -4,3 +4,5 @@ pub mod Box
 pub mod Planes
 pub mod Place
 pub mod Moves
+pub mod Shelves
+pub mod Filing

@@ -13,8 +13,8 @@ use std::alloc::Global;
 
 // A level plane, at a height.
 #[derive(Clone, Copy)]
-struct Plane {
-    z: i32,
+pub(crate) struct Plane {
+    pub(crate) z: i32,
 }
 
 fn above(plane: Plane, p: Pt3) -> bool
@@ -118,7 +118,7 @@ fn same(p: Pt, q: Pt) -> bool
 }
 
 // The edge in which the plane cuts a triangle.
-fn cut(plane: Plane, t: Tri) -> Option<Edge>
+pub(crate) fn cut(plane: Plane, t: Tri) -> Option<Edge>
     ensures { result ≡ edge_of plane.z t }
 {
     match falling_point(plane, t) {
@@ -148,8 +148,9 @@ pub fn section(alloc: Global, mesh: &Mesh, z: i32) -> Result<Vec<Edge>, NoMemory
 {
     let plane = Plane { z };
     let mut edges = Vec::new(alloc);
-    for t in mesh.triangles() {
-        if let Some(e) = cut(plane, *t) {
+    let tris = mesh.triangles();
+    for k in mesh.filed_at(z) {
+        if let Some(e) = cut(plane, tris[*k as usize]) {
             edges.push(e)?;
         }
     }

@@ -7,6 +7,7 @@ mod cutting;
 mod mesh;
 mod placing;
 mod planes;
+mod shelves;
 
 pub use cutting::section;
 pub use mesh::{Mesh, mesh_of};

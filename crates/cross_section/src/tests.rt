@@ -1,4 +1,5 @@
 use super::*;
+use crate::cutting::{Plane, cut};
 use settings_core::{Given, Pair, Scope, resolve};
 use slice_base::{Edge, NoMemory, Pt, Pt3, Text, Tri};
 use std::alloc::Global;
@@ -104,6 +105,78 @@ fn a_mesh_keeps_its_triangles_in_order_and_knows_its_top(rt: HostRuntime) -> Res
     let mesh = mesh_of(rt.alloc(), &[first, second])?;
     assert_eq!(rt; mesh.triangles(), [first, second].as_slice());
     assert_eq!(rt; mesh.top(), 7);
+    Ok(())
+}
+
+// The section as it is defined: each triangle is looked at.
+fn plain_section(alloc: Global, tris: &[Tri], z: i32) -> Result<Vec<Edge>, NoMemory> {
+    let mut edges = Vec::new(alloc);
+    for t in tris {
+        if let Some(e) = cut(Plane { z }, *t) {
+            edges.push(e)?;
+        }
+    }
+    Ok(edges)
+}
+
+// Flat, low and tall triangles at 23 heights, so that many touch a plane and most don't meet it.
+fn scattered(alloc: Global) -> Result<Vec<Tri>, NoMemory> {
+    let mut tris = Vec::new(alloc);
+    for k in 0..60u8 {
+        let x = i32::from(k);
+        let low = x * 7 % 23;
+        let rise = [0, 1, 4, 40][usize::from(k % 4)];
+        tris.push(Tri {
+            a: corner(x, 0, low + rise),
+            b: corner(x + 9, 2, low),
+            c: corner(x, 7, low + rise / 2),
+        })?;
+    }
+    Ok(tris)
+}
+
+#[test]
+fn filed_triangles_give_the_section_of_all(rt: HostRuntime) -> Result<(), Fail> {
+    let tris = scattered(rt.alloc())?;
+    let mesh = mesh_of(rt.alloc(), tris.as_slice())?;
+    for z in -1..64 {
+        assert_eq!(rt;
+            section(rt.alloc(), &mesh, z)?.as_slice(),
+            plain_section(rt.alloc(), tris.as_slice(), z)?.as_slice()
+        );
+    }
+    assert_eq!(rt; section(rt.alloc(), &mesh, 11)?.len(), 8);
+    Ok(())
+}
+
+#[test]
+fn the_greatest_heights_are_filed_too(rt: HostRuntime) -> Result<(), Fail> {
+    let tris = [
+        Tri {
+            a: corner(0, 0, i32::MIN),
+            b: corner(50, 0, i32::MIN),
+            c: corner(0, 50, i32::MAX),
+        },
+        Tri {
+            a: corner(0, 0, 7),
+            b: corner(1, 0, 7),
+            c: corner(0, 1, 7),
+        },
+        Tri {
+            a: corner(3, 0, i32::MAX),
+            b: corner(4, 0, i32::MAX),
+            c: corner(4, 9, 2147483000),
+        },
+    ];
+    let mesh = mesh_of(rt.alloc(), &tris)?;
+    for z in [i32::MIN, -1, 0, 7, 8, 2147483001, i32::MAX] {
+        assert_eq!(rt;
+            section(rt.alloc(), &mesh, z)?.as_slice(),
+            plain_section(rt.alloc(), &tris, z)?.as_slice()
+        );
+    }
+    let empty = mesh_of(rt.alloc(), &[])?;
+    assert_eq!(rt; section(rt.alloc(), &empty, 0)?.len(), 0);
     Ok(())
 }
 

@@ -1,4 +1,4 @@
-use Rattle.std.proofs.Common.{FitsSigned, w32, rules, ◌∙◌, ◌≡◌, ◌<◌, arith, ap}
+use Rattle.std.proofs.Common.{w32, ◌∙◌, ◌≡◌, ◌<◌, arith, ap}
 use Rattle.std.specs.Prelude.{pos}
 use Rattle.std.specs.Int.{int_max}
 use Rattle.std.proofs.lemmas.Int.{to_z-of_z}
