@@ -1,19 +1,19 @@
 // Gaps between the ends and the starts of chains.
 
-ghost use Rattle.std.specs.Prelude.{◌≡◌, ◌+◌, ◌*◌, ◌<◌, ◌≤◌, ◌^◌, ◌-ℤ◌, length, nat_le, if◌then◌else◌, IfSome, slice_index_or, []};
+ghost use Rattle.std.specs.Prelude.{◌≡◌, ◌+◌, ◌*◌, ◌<◌, ◌≤◌, ◌^◌, ◌-ℤ◌, ◌↔◌, ℕ, length, true, IfSome, MatchOption, IsTrue, slice_index_or, []};
 ghost use Rattle.std.specs.Int.RustNames.{unsigned_abs};
-ghost use Rattle.stitch_core.specs.Gaps.{start_of, end_of, square, squared, gaps_to, reach, lesser, least, least_gap};
-ghost use Rattle.std.specs.List.{All};
+ghost use Rattle.stitch_core.specs.Gaps.{start_of, end_of, square, squared};
+ghost use Rattle.stitch_core.specs.Slots.{IsGap, HasNoGap};
 
 use slice_base::{Loop, Pt};
 
 // The gap from the end of one chain to the start of another, as the square of its width in µm, and the
-// places of the two chains.
-#[derive(Clone, Copy)]
+// places of the two chains. The order is that in which gaps are closed.
+#[derive(Clone, Copy, PartialEq, Eq, PartialOrd, Ord)]
 pub(crate) struct Gap {
-    pub(crate) squared: u128,
-    pub(crate) from: usize,
-    pub(crate) to: usize,
+    pub(crate) squared: u32,
+    pub(crate) from: u32,
+    pub(crate) to: u32,
 }
 
 // The widest gap that is closed, 10 mm, squared.
@@ -40,70 +40,28 @@ fn distance(p: Pt, q: Pt) -> u128
     square_of(step(p.x, q.x)) + square_of(step(p.y, q.y))
 }
 
-fn start(chain: &Loop) -> Pt
-    requires { 0 < length chain.now }
-    ensures { result ≡ start_of chain.now }
+// The gap from the end of the chain in slot `from` to the start of that in slot `to`, if it is within reach.
+pub(crate) fn gap_between(slots: &[Loop], from: u32, to: u32) -> Option<Gap>
+    ensures { MatchOption result (HasNoGap slots.now from to) (λ g. IsGap slots.now g × (g.from ≡ from) × (g.to ≡ to)) }
 {
-    chain.points()[0]
+    let end = slots.get(from as usize)?.points().last()?;
+    let start = slots.get(to as usize)?.points().first()?;
+    let squared = distance(*end, *start);
+    if squared > REACH {
+        return None;
+    }
+    Some(Gap {
+        squared: squared as u32,
+        from,
+        to,
+    })
 }
 
-fn end(chain: &Loop) -> Pt
-    requires { 0 < length chain.now }
-    ensures { result ≡ end_of chain.now }
+pub(crate) fn is_gap(slots: &[Loop], gap: Gap) -> bool
+    ensures { IsTrue result ↔ IsGap slots.now gap }
 {
-    let points = chain.points();
-    points[points.len() - 1]
-}
-
-fn pick(best: Option<Gap>, gap: Gap) -> Option<Gap>
-    ensures { result ≡ (if nat_le gap.squared reach then lesser best gap else best) }
-{
-    if gap.squared > REACH {
-        return best;
+    match gap_between(slots, gap.from, gap.to) {
+        Some(now) => now.squared == gap.squared,
+        None => false,
     }
-    match best {
-        None => Some(gap),
-        Some(old) => {
-            if gap.squared < old.squared {
-                Some(gap)
-            } else {
-                Some(old)
-            }
-        }
-    }
-}
-
-// The better of a gap and those from the end of chain `from` to all starts.
-fn nearest(best: Option<Gap>, from: usize, chains: &[Loop]) -> Option<Gap>
-    requires within { from < length chains.now }
-    requires long { All (λ c. 0 < length c) chains.now }
-    ensures { result ≡ least best (gaps_to (end_of (slice_index_or chains.now from [])) from 0 chains.now) }
-{
-    let p = end(&chains[from]);
-    let mut found = best;
-    for (to, chain) in chains.iter().enumerate() {
-        found = pick(
-            found,
-            Gap {
-                squared: distance(p, start(chain)),
-                from,
-                to,
-            },
-        );
-    }
-    found
-}
-
-// The least gap within reach, if there is one.
-pub(crate) fn nearest_of_all(chains: &[Loop]) -> Option<Gap>
-    requires long { All (λ c. 0 < length c) chains.now }
-    ensures least { result ≡ least_gap chains.now }
-    ensures from_within { IfSome result (λ g. g.from < length chains.now) }
-    ensures to_within { IfSome result (λ g. g.to < length chains.now) }
-{
-    let mut found = None;
-    for from in 0..chains.len() {
-        found = nearest(found, from, chains);
-    }
-    found
 }

@@ -1,29 +1,23 @@
 // Closing gaps.
 
-ghost use Rattle.std.specs.Prelude.{◌≡◌, ◌++◌, ◌-◌, ◌+◌, ◌==◌, ◌<◌, ◌≤◌, ◌≢◌, length, OnOk, IfOk, [], slice_index_or, slice_set, take, drop};
-ghost use Rattle.std.specs.List.{All, remove};
-ghost use Rattle.stitch_core.specs.Stitch.{doubled, looped, lengthened, closed_up, joined};
+ghost use Rattle.std.specs.Prelude.{◌≡◌, ◌++◌, ◌∷◌, ◌-◌, ◌+◌, ◌==◌, ◌<◌, ◌≤◌, ◌^◌, length, OnOk, IfOk, [], if◌then◌else◌, slice_index_or, drop};
+ghost use Rattle.std.specs.List.{All};
+ghost use Rattle.stitch_core.specs.Slots.{IsGap, closed, joining, left};
+ghost use Rattle.stitch_core.specs.Stitch.{doubled, looped, joined};
 
-use crate::gaps::{Gap, nearest_of_all};
+use crate::gaps::Gap;
+use crate::queue::Queue;
 use chain_core::Chains;
 use slice_base::{Loop, NoMemory, Pt, Region};
 use std::alloc::Global;
-use std::marker::Model;
 use std::mem;
 
-// The loops so far, and the chains that are still loose.
+// The loops so far, and a slot for each chain that was loose. The chain that is put behind another one or
+// becomes a loop leaves its slot without points, and no chain changes its slot.
 #[derive(Drop)]
 pub(crate) struct Joins {
     loops: Region,
-    chains: Vec<Loop>,
-}
-
-impl Model for Joins {
-    ghost use Rattle.stitch_core.specs.Stitch.{Joining};
-
-    ghost Value = { Joining };
-
-    ghost view = { λ j. record { loops = j.loops; chains = j.chains.items } };
+    slots: Vec<Loop>,
 }
 
 fn doubled_points(gap: Gap) -> usize
@@ -52,18 +46,12 @@ fn closed_loop(gap: Gap, chain: Loop) -> Loop
     Loop::from_vec(points)
 }
 
-// Puts the points of the chain at `gap.to` behind those of the chain at `gap.from`, and takes it out.
-fn join(alloc: Global, gap: Gap, chains: &mut Vec<Loop>) -> Result<(), NoMemory>
-    requires from_within { gap.from < length chains.old.items }
-    requires to_within { gap.to < length chains.old.items }
-    requires apart { gap.from ≢ gap.to }
-    requires long { All (λ c. 0 < length c) chains.old.items }
-    ensures { OnOk result (chains.new.items ≡ remove (slice_set chains.old.items gap.from (lengthened gap (slice_index_or chains.old.items gap.from []) (slice_index_or chains.old.items gap.to []))) gap.to) }
+// One, or none where the chain is gone.
+fn chains_in(slot: &Loop) -> usize
+    ensures count { result ≡ length (left (slot.now ∷ [])) }
+    ensures few { result ≤ 1 }
 {
-    let tail = mem::replace(&mut chains[gap.to], Loop::new(alloc));
-    append(&mut chains[gap.from], &tail.points()[doubled_points(gap)..])?;
-    chains.remove(gap.to);
-    Ok(())
+    if slot.points().is_empty() { 0 } else { 1 }
 }
 
 fn copies(alloc: Global, region: &Region) -> Result<Vec<Loop>, NoMemory>
@@ -79,19 +67,26 @@ fn copies(alloc: Global, region: &Region) -> Result<Vec<Loop>, NoMemory>
 impl Joins {
     // The closed chains are the first loops. The loose ones are copied, since they grow.
     pub(crate) fn of(alloc: Global, chains: Chains) -> Result<Joins, NoMemory>
-        ensures { IfOk result (λ j. j ≡ record { loops = chains.closed; chains = chains.loose }) }
+        requires long { All (λ c. 0 < length c) chains.loose }
+        ensures joining { IfOk result (λ j. joining j.loops j.slots.items ≡ record { loops = chains.closed; chains = chains.loose }) }
+        ensures slots { IfOk result (λ j. length j.slots.items ≡ length chains.loose) }
     {
-        let loose = copies(alloc, &chains.loose)?;
+        let slots = copies(alloc, &chains.loose)?;
         Ok(Joins {
             loops: chains.closed,
-            chains: loose,
+            slots,
         })
     }
 
     pub(crate) fn loose_count(&self) -> usize
-        ensures { result ≡ length self.now.chains }
+        ensures count { result ≡ length (left self.now.slots.items) }
+        ensures few { result ≤ length self.now.slots.items }
     {
-        self.chains.len()
+        let mut count = 0;
+        for slot in &self.slots {
+            count += chains_in(slot);
+        }
+        count
     }
 
     pub(crate) fn into_loops(self) -> Region
@@ -101,27 +96,29 @@ impl Joins {
     }
 
     fn close(&mut self, gap: Gap, alloc: Global) -> Result<(), NoMemory>
-        requires from_within { gap.from < length self.old.chains }
-        requires to_within { gap.to < length self.old.chains }
-        requires long { All (λ c. 0 < length c) self.old.chains }
-        ensures closed { OnOk result (self.new ≡ closed_up gap self.old) }
+        requires { IsGap self.old.slots.items gap }
+        ensures slots { OnOk result (self.new.slots.items ≡ closed gap self.old.slots.items) }
+        ensures loops { OnOk result (self.new.loops ≡ (if gap.from == gap.to then self.old.loops ++ looped gap (slice_index_or self.old.slots.items gap.from []) ∷ [] else self.old.loops)) }
     {
+        let tail = mem::replace(&mut self.slots[gap.to as usize], Loop::new(alloc));
         if gap.from == gap.to {
-            let chain = self.chains.remove(gap.from);
-            self.loops.push(closed_loop(gap, chain))
+            self.loops.push(closed_loop(gap, tail))
         } else {
-            join(alloc, gap, &mut self.chains)
+            let points = &tail.points()[doubled_points(gap)..];
+            append(&mut self.slots[gap.from as usize], points)
         }
     }
 
     // Closes the least gap again and again, until none is within reach.
     pub(crate) fn close_all(&mut self, alloc: Global) -> Result<(), NoMemory>
-        requires long { All (λ c. 0 < length c) self.old.chains }
-        ensures joined { OnOk result (self.new ≡ joined (length self.old.chains) self.old) }
-        ensures fewer { OnOk result (length self.new.chains ≤ length self.old.chains) }
+        requires { length self.old.slots.items < 2 ^ 32 }
+        ensures joined { OnOk result (joining self.new.loops self.new.slots.items ≡ joined (length (left self.old.slots.items)) (joining self.old.loops self.old.slots.items)) }
+        ensures slots { OnOk result (length self.new.slots.items ≡ length self.old.slots.items) }
     {
-        'gaps: while let Some(gap) = nearest_of_all(self.chains.as_slice()) {
+        let mut queue = Queue::of(alloc, self.slots.as_slice())?;
+        'gaps: while let Some(gap) = queue.next(self.slots.as_slice()) {
             self.close(gap, alloc)?;
+            queue.add_from(self.slots.as_slice(), gap.from)?;
         }
         Ok(())
     }

@@ -4,9 +4,12 @@
 
 mod gaps;
 mod joins;
+mod queue;
 mod stitches;
 
 pub use stitches::{Stitched, stitch};
 
+#[cfg(test)]
+mod plain;
 #[cfg(test)]
 mod tests;

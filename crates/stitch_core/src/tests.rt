@@ -81,3 +81,50 @@ fn two_halves_become_one_loop(rt: HostRuntime) -> Result<(), Fail> {
     );
     Ok(())
 }
+
+fn next_state(state: u32) -> u32 {
+    state.wrapping_mul(1_664_525).wrapping_add(1_013_904_223)
+}
+
+fn on_grid(state: u32) -> Pt {
+    let x = (state >> 8) % 6;
+    let y = (state >> 16) % 6;
+    at(x as i32 * 4000, y as i32 * 4000)
+}
+
+// Edges on a coarse grid, so that many gaps are equal, and some are 0 or too wide.
+fn edges_on_grid(seed: u32) -> [Edge; 40] {
+    let mut state = seed;
+    let mut edges = [Edge {
+        from: at(0, 0),
+        to: at(0, 0),
+    }; 40];
+    for edge in edges.iter_mut() {
+        state = next_state(state);
+        let from = on_grid(state);
+        state = next_state(state);
+        let to = on_grid(state);
+        *edge = Edge { from, to };
+    }
+    edges
+}
+
+#[test]
+fn all_pairs_tried_each_turn_give_the_same(rt: HostRuntime) -> Result<(), Fail> {
+    for seed in 1..20 {
+        let edges = edges_on_grid(seed);
+        let stitched = stitch(rt.alloc(), &edges)?;
+        let chains = link(rt.alloc(), &edges)?;
+        let (loops, open) = plain::stitched(rt.alloc(), &chains.closed, &chains.loose)?;
+        assert_eq!(rt; stitched.dropped as usize, open.loops().len(), "at {seed}");
+        let mut kept = stitched.loops.loops().iter();
+        for l in loops.loops() {
+            if l.points().len() >= 3 {
+                let found = kept.next().map(|k| k.points() == l.points());
+                assert_eq!(rt; found, Some(true), "at {seed}");
+            }
+        }
+        assert!(rt; kept.next().is_none(), "at {seed}");
+    }
+    Ok(())
+}
