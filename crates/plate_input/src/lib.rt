@@ -1,0 +1,16 @@
+// Reads what a task asks to slice. What goes in are the items of a command line and a shelf; what comes
+// out are the settings and the meshes in place, or the first refusal, as `PlateGives` in `specs/` says.
+#![tactic(auto)]
+
+mod files;
+mod gathered;
+mod meshes;
+mod plates;
+mod reading;
+mod settled;
+#[cfg(test)]
+mod tests;
+
+pub use files::MOST_BYTES;
+pub use plates::Plate;
+pub use reading::read_plate;

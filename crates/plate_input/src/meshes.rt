@@ -1,0 +1,86 @@
+// The meshes of a task, read and put in place.
+
+ghost use Rattle.std.specs.Prelude.{◌≡◌, ◌≤◌, ◌<◌, length, IfOk};
+ghost use Rattle.std.specs.List.{All};
+ghost use Rattle.settings_core.specs.Valid.{IsValid};
+ghost use Rattle.plate_input.specs.Meshes.{TrianglesGive, MeshGives, MeshesGive, LiesInside};
+ghost use Rattle.plate_input.specs.Answers.{Answers};
+
+use crate::files::MOST_BYTES;
+use answers::Refusal;
+use cross_section::{Mesh, mesh_of, put_in_place};
+use settings_core::Settings;
+use slice_base::{Items, Text, Tri};
+use std::alloc::Global;
+use stl_text::{MOST_TRIANGLES, StlFault, read_stl};
+
+// The triangles of a mesh's file, one at least.
+fn read_triangles(alloc: Global, bytes: &[u8], mesh: u8) -> Result<Items<Tri>, Refusal>
+    requires { length bytes.now ≤ MOST_BYTES }
+    ensures gives { Answers (TrianglesGive mesh bytes.now) result }
+    ensures few { IfOk result (λ tris. length tris ≤ MOST_TRIANGLES) }
+{
+    match read_stl(alloc, bytes) {
+        Ok(tris) => {
+            if tris.is_empty() {
+                Err(Refusal::NoTriangles { mesh })
+            } else {
+                Ok(Items::of(tris))
+            }
+        }
+        Err(StlFault::BadLine { line }) => Err(Refusal::BadStl { mesh, line }),
+        Err(StlFault::TooManyTriangles { count }) => Err(Refusal::TooManyTriangles { mesh, count }),
+        Err(StlFault::NoMemory) => Err(Refusal::NoMemory),
+    }
+}
+
+// A mesh, moved to its place.
+fn place_mesh(
+    alloc: Global,
+    bytes: &[u8],
+    settings: &Settings,
+    mesh: u8,
+) -> Result<Mesh, Refusal>
+    requires short { length bytes.now ≤ MOST_BYTES }
+    requires known { mesh < length settings.now.meshes }
+    requires valid { IsValid settings.now }
+    ensures gives { Answers (MeshGives settings.now mesh bytes.now) result }
+    ensures inside { IfOk result (LiesInside settings.now) }
+{
+    let mut tris = read_triangles(alloc, bytes, mesh)?.into_vec();
+    match put_in_place(tris.as_mut_slice(), settings, mesh) {
+        Err(outside) => Err(Refusal::OutsideVolume {
+            mesh,
+            triangle: outside.triangle,
+        }),
+        Ok(()) => match mesh_of(alloc, tris.as_slice()) {
+            Ok(mesh) => Ok(mesh),
+            Err(_) => Err(Refusal::NoMemory),
+        },
+    }
+}
+
+/// All meshes in place, or the first refusal. The bytes of each file are let go once its mesh is read.
+pub(crate) fn place_meshes(
+    alloc: Global,
+    files: Items<Text>,
+    settings: &Settings,
+) -> Result<Items<Mesh>, Refusal>
+    requires short { All (λ bytes. length bytes ≤ MOST_BYTES) files }
+    requires known { length files ≡ length settings.now.meshes }
+    requires valid { IsValid settings.now }
+    ensures gives { Answers (MeshesGive settings.now 0 files) result }
+    ensures inside { IfOk result (All (LiesInside settings.now)) }
+{
+    let mut meshes = Items::new(alloc);
+    let mut number: u8 = 0;
+    for bytes in files.into_vec() {
+        let mesh = place_mesh(alloc, bytes.bytes(), settings, number)?;
+        match meshes.push(mesh) {
+            Ok(()) => {}
+            Err(_) => return Err(Refusal::NoMemory),
+        }
+        number += 1;
+    }
+    Ok(meshes)
+}

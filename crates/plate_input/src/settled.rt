@@ -1,0 +1,80 @@
+// What pairs and meshes give: settings, and meshes in place.
+
+ghost use Rattle.std.specs.Prelude.{◌≡◌, ◌≤◌, ◌<◌, ◌⊎◌, length, None, IfOk, IfErr};
+ghost use Rattle.std.specs.List.{All};
+ghost use Rattle.settings_core.specs.Resolve.{settings_of, fault_of};
+ghost use Rattle.settings_core.specs.Valid.{IsValid};
+ghost use Rattle.plate_input.specs.Meshes.{LiesInside};
+ghost use Rattle.plate_input.specs.Plate.{SettingRefusal, SettledGives};
+ghost use Rattle.plate_input.specs.Answers.{Answers};
+
+use crate::files::MOST_BYTES;
+use crate::meshes::place_meshes;
+use crate::plates::Plate;
+use answers::Refusal;
+use settings_core::{Pair, SettingFault, Settings, resolve};
+use slice_base::{Items, Text};
+use std::alloc::Global;
+
+fn bad_value(alloc: Global, pair: &Pair) -> Refusal
+    ensures { (result ≡ Refusal.BadValue pair.now.scope pair.now.key) ⊎ (result ≡ Refusal.NoMemory) }
+{
+    match pair.key.copy(alloc) {
+        Ok(key) => Refusal::BadValue {
+            scope: pair.scope,
+            key,
+        },
+        Err(_) => Refusal::NoMemory,
+    }
+}
+
+fn out_of_range(alloc: Global, pair: &Pair) -> Refusal
+    ensures { (result ≡ Refusal.OutOfRange pair.now.scope pair.now.key) ⊎ (result ≡ Refusal.NoMemory) }
+{
+    match pair.key.copy(alloc) {
+        Ok(key) => Refusal::OutOfRange {
+            scope: pair.scope,
+            key,
+        },
+        Err(_) => Refusal::NoMemory,
+    }
+}
+
+// The settings that pairs give, with a mesh for each extruder in the list.
+fn settle(alloc: Global, pairs: &[Pair], extruders: &[u8]) -> Result<Settings, Refusal>
+    requires few { length extruders.now ≤ 16 }
+    requires below_eight { All (λ e. e < 8) extruders.now }
+    ensures faultless { IfOk result (λ s. fault_of pairs.now extruders.now ≡ None) }
+    ensures settings { IfOk result (λ s. s ≡ settings_of pairs.now extruders.now) }
+    ensures valid { IfOk result IsValid }
+    ensures refused { IfErr result (λ r. SettingRefusal r pairs.now extruders.now) }
+{
+    match resolve(alloc, pairs, extruders) {
+        Ok(settings) => Ok(settings),
+        Err(SettingFault::BadValue { pair }) => Err(bad_value(alloc, &pairs[pair as usize])),
+        Err(SettingFault::OutOfRange { pair }) => Err(out_of_range(alloc, &pairs[pair as usize])),
+        Err(SettingFault::UnknownExtruder { mesh }) => Err(Refusal::UnknownExtruder { mesh }),
+        Err(SettingFault::NoMemory) => Err(Refusal::NoMemory),
+    }
+}
+
+/// The settings and the meshes in place, or the first refusal.
+pub(crate) fn make_plate(
+    alloc: Global,
+    pairs: &[Pair],
+    extruders: &[u8],
+    files: Items<Text>,
+) -> Result<Plate, Refusal>
+    requires few { length extruders.now ≤ 16 }
+    requires below_eight { All (λ e. e < 8) extruders.now }
+    requires as_many { length files ≡ length extruders.now }
+    requires short { All (λ bytes. length bytes ≤ MOST_BYTES) files }
+    ensures gives { Answers (SettledGives pairs.now extruders.now files) result }
+    ensures valid { IfOk result (λ p. IsValid p.settings) }
+    ensures meshes { IfOk result (λ p. length p.meshes ≡ length p.settings.meshes) }
+    ensures inside { IfOk result (λ p. All (LiesInside p.settings) p.meshes) }
+{
+    let settings = settle(alloc, pairs, extruders)?;
+    let meshes = place_meshes(alloc, files, &settings)?;
+    Ok(Plate { settings, meshes })
+}
