@@ -1,0 +1,7 @@
+pub mod Faults
+pub mod Readings
+pub mod Placings
+pub mod Rows
+pub mod Gathers
+pub mod Stages
+pub mod Told

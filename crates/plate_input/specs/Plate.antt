@@ -54,6 +54,11 @@ SettledGives pairs es files (Err (refusal.NoTriangles mesh)) = HasBadMesh pairs 
 SettledGives pairs es files (Err (refusal.OutsideVolume mesh n)) = HasBadMesh pairs es files (refusal.OutsideVolume mesh n)
 SettledGives pairs es files (Err r) = ⊥
 
+-- the same, where the settings files were read: one of them isn't one, or these are the pairs
+abbrev pub KeptGives : List Pair → Option (List ℕ) → List ℕ → List (List ℕ) → Result Plate Refusal → Type 0
+KeptGives pairs (Some name) es files a = a ≡ Err (refusal.NotJson name)
+KeptGives pairs None es files a = SettledGives pairs es files a
+
 -- the same, of items whose files are all there, and whose settings files are such
 pub record GivesSettled (items : List Item) (files : Option (List (List ℕ × List ℕ))) (a : Result Plate Refusal) : Type 0 where
   pub read : HasPairs items files

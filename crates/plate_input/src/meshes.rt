@@ -21,11 +21,12 @@ fn read_triangles(alloc: Global, bytes: &[u8], mesh: u8) -> Result<Items<Tri>, R
     ensures few { IfOk result (λ tris. length tris ≤ MOST_TRIANGLES) }
 {
     match read_stl(alloc, bytes) {
-        Ok(tris) => {
+        Ok(read) => {
+            let tris = Items::of(read);
             if tris.is_empty() {
                 Err(Refusal::NoTriangles { mesh })
             } else {
-                Ok(Items::of(tris))
+                Ok(tris)
             }
         }
         Err(StlFault::BadLine { line }) => Err(Refusal::BadStl { mesh, line }),
@@ -35,12 +36,7 @@ fn read_triangles(alloc: Global, bytes: &[u8], mesh: u8) -> Result<Items<Tri>, R
 }
 
 // A mesh, moved to its place.
-fn place_mesh(
-    alloc: Global,
-    bytes: &[u8],
-    settings: &Settings,
-    mesh: u8,
-) -> Result<Mesh, Refusal>
+fn place_mesh(alloc: Global, bytes: &[u8], settings: &Settings, mesh: u8) -> Result<Mesh, Refusal>
     requires short { length bytes.now ≤ MOST_BYTES }
     requires known { mesh < length settings.now.meshes }
     requires valid { IsValid settings.now }
@@ -70,6 +66,7 @@ pub(crate) fn place_meshes(
     requires known { length files ≡ length settings.now.meshes }
     requires valid { IsValid settings.now }
     ensures gives { Answers (MeshesGive settings.now 0 files) result }
+    ensures as_many { IfOk result (λ meshes. length meshes ≡ length settings.now.meshes) }
     ensures inside { IfOk result (All (LiesInside settings.now)) }
 {
     let mut meshes = Items::new(alloc);

@@ -12,9 +12,9 @@ ghost use Rattle.plate_input.specs.Meshes.{LiesInside};
 ghost use Rattle.plate_input.specs.Plate.{PlateGives};
 ghost use Rattle.plate_input.specs.Answers.{ReadsFew, SaysPlate};
 
-use crate::gathered::{Gathered, gather};
+use crate::gathered::gather;
 use crate::plates::Plate;
-use crate::settled::make_plate;
+use crate::settled::finish;
 use answers::Refusal;
 use cli_words::Task;
 use outside::Shelf;
@@ -25,11 +25,7 @@ use std::alloc::Global;
 /// All files are read before any is parsed, in the order of the words. Then come the settings files,
 /// the settings, and the meshes one by one. A fault of the shelf or want of memory may come in place of
 /// any other answer; the files of the shelf stay as they are.
-pub fn read_plate<Sh: Shelf>(
-    alloc: Global,
-    task: &Task,
-    shelf: &mut Sh,
-) -> Result<Plate, Refusal>
+pub fn read_plate<Sh: Shelf>(alloc: Global, task: &Task, shelf: &mut Sh) -> Result<Plate, Refusal>
     requires task { IsTask task.now }
     requires utf8 { All IsUtf8 (item_names task.now.items) }
     ensures says { SaysPlate result task.now.items (Sh.store shelf.old) (Sh.store shelf.new) }
@@ -44,14 +40,6 @@ pub fn read_plate<Sh: Shelf>(
     ensures meshes { IfOk result (λ p. length p.meshes ≡ length p.settings.meshes) }
     ensures inside { IfOk result (λ p. All (LiesInside p.settings) p.meshes) }
 {
-    let Gathered {
-        pairs,
-        not_json,
-        extruders,
-        meshes,
-    } = gather(alloc, task.items.items(), shelf)?;
-    match not_json {
-        Some(name) => Err(Refusal::NotJson { name }),
-        None => make_plate(alloc, pairs.items(), extruders.items(), meshes),
-    }
+    let gathered = gather(alloc, task.items.items(), shelf)?;
+    finish(alloc, gathered)
 }

@@ -1,14 +1,15 @@
 // What pairs and meshes give: settings, and meshes in place.
 
-ghost use Rattle.std.specs.Prelude.{◌≡◌, ◌≤◌, ◌<◌, ◌⊎◌, length, None, IfOk, IfErr};
+ghost use Rattle.std.specs.Prelude.{◌≡◌, ◌≤◌, ◌<◌, ◌⊎◌, length, slice_index_or, None, IfOk, IfErr};
 ghost use Rattle.std.specs.List.{All};
 ghost use Rattle.settings_core.specs.Resolve.{settings_of, fault_of};
 ghost use Rattle.settings_core.specs.Valid.{IsValid};
 ghost use Rattle.plate_input.specs.Meshes.{LiesInside};
-ghost use Rattle.plate_input.specs.Plate.{SettingRefusal, SettledGives};
+ghost use Rattle.plate_input.specs.Plate.{SettingRefusal, SettledGives, KeptGives};
 ghost use Rattle.plate_input.specs.Answers.{Answers};
 
 use crate::files::MOST_BYTES;
+use crate::gathered::Gathered;
 use crate::meshes::place_meshes;
 use crate::plates::Plate;
 use answers::Refusal;
@@ -40,6 +41,13 @@ fn out_of_range(alloc: Global, pair: &Pair) -> Refusal
     }
 }
 
+fn pair_at(pairs: &[Pair], place: u64) -> &Pair
+    requires { place < length pairs.now }
+    ensures { result.now ≡ slice_index_or pairs.now place result.now }
+{
+    &pairs[place as usize]
+}
+
 // The settings that pairs give, with a mesh for each extruder in the list.
 fn settle(alloc: Global, pairs: &[Pair], extruders: &[u8]) -> Result<Settings, Refusal>
     requires few { length extruders.now ≤ 16 }
@@ -47,12 +55,19 @@ fn settle(alloc: Global, pairs: &[Pair], extruders: &[u8]) -> Result<Settings, R
     ensures faultless { IfOk result (λ s. fault_of pairs.now extruders.now ≡ None) }
     ensures settings { IfOk result (λ s. s ≡ settings_of pairs.now extruders.now) }
     ensures valid { IfOk result IsValid }
+    ensures as_many { IfOk result (λ s. length s.meshes ≡ length extruders.now) }
     ensures refused { IfErr result (λ r. SettingRefusal r pairs.now extruders.now) }
 {
     match resolve(alloc, pairs, extruders) {
         Ok(settings) => Ok(settings),
-        Err(SettingFault::BadValue { pair }) => Err(bad_value(alloc, &pairs[pair as usize])),
-        Err(SettingFault::OutOfRange { pair }) => Err(out_of_range(alloc, &pairs[pair as usize])),
+        Err(SettingFault::BadValue { pair }) => {
+            let misread = pair_at(pairs, pair);
+            Err(bad_value(alloc, misread))
+        }
+        Err(SettingFault::OutOfRange { pair }) => {
+            let outlier = pair_at(pairs, pair);
+            Err(out_of_range(alloc, outlier))
+        }
         Err(SettingFault::UnknownExtruder { mesh }) => Err(Refusal::UnknownExtruder { mesh }),
         Err(SettingFault::NoMemory) => Err(Refusal::NoMemory),
     }
@@ -77,4 +92,27 @@ pub(crate) fn make_plate(
     let settings = settle(alloc, pairs, extruders)?;
     let meshes = place_meshes(alloc, files, &settings)?;
     Ok(Plate { settings, meshes })
+}
+
+/// The plate of all that was gathered, or the first refusal.
+pub(crate) fn finish(alloc: Global, gathered: Gathered) -> Result<Plate, Refusal>
+    requires few { length gathered.extruders ≤ 16 }
+    requires below_eight { All (λ e. e < 8) gathered.extruders }
+    requires as_many { length gathered.meshes ≡ length gathered.extruders }
+    requires short { All (λ bytes. length bytes ≤ MOST_BYTES) gathered.meshes }
+    ensures gives { Answers (KeptGives gathered.pairs gathered.not_json gathered.extruders gathered.meshes) result }
+    ensures valid { IfOk result (λ p. IsValid p.settings) }
+    ensures meshes { IfOk result (λ p. length p.meshes ≡ length p.settings.meshes) }
+    ensures inside { IfOk result (λ p. All (LiesInside p.settings) p.meshes) }
+{
+    let Gathered {
+        pairs,
+        not_json,
+        extruders,
+        meshes,
+    } = gathered;
+    match not_json {
+        Some(name) => Err(Refusal::NotJson { name }),
+        None => make_plate(alloc, pairs.items(), extruders.items(), meshes),
+    }
 }

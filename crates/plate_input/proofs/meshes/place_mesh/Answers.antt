@@ -1,0 +1,33 @@
+use Rattle.std.proofs.Common.{◌≡◌, Err, Some, None, List, length, arith, sym, ap, refl, ◌∙◌, subst}
+use Rattle.std.proofs.lemmas.Result.{err_from_is_err_and}
+use Rattle.slice_base.specs.declared.points.Tri.{Tri}
+use Rattle.cross_section.specs.Place.{placed, first_outside}
+use Rattle.plate_input.proofs.Placings.{mesh_unread, mesh_outside, mesh_placed, written}
+use Rattle.plate_input.proofs.meshes.place_mesh.Goals as goal
+
+pub returns-in_err-read_triangles-clause-gives : goal.returns-in_err-read_triangles-clause-gives
+returns-in_err-read_triangles-clause-gives c =
+    let p = err_from_is_err_and c.from_residual.result c.from_residual.ensures.1 in
+    let q = c.in_err-read_triangles.field-0.0 in
+    let e : c.from_residual.result ≡ Err c.in_err-read_triangles.field-0.0 = p.1 ∙ ap Err p.2 in
+    rw e (mesh_unread c.args.settings.now c.args.mesh c.args.bytes.now q c.in_err-read_triangles.ensures.gives)
+
+pub returns-in-Err-clause-gives : goal.returns-in-Err-clause-gives
+returns-in-Err-clause-gives c =
+    let s = c.args.settings.now in
+    let m = c.args.mesh in
+    let n = c.in-Err.outside.triangle in
+    let same : c.as_mut_slice.result.now ≡ c.in_ok-read_triangles.field-0 = c.as_mut_slice.ensures.value ∙ c.into_vec-tris.ensures in
+    let out : first_outside c.args.settings.now (placed c.args.settings.now c.args.mesh c.in_ok-read_triangles.field-0) ≡ Some c.in-Err.outside.triangle = subst (λ (ts : List Tri). first_outside s (placed s m ts) ≡ Some n) same ((c.in-Err.ensures.outside n).0 refl) in
+    mesh_outside s m n c.args.bytes.now c.in_ok-read_triangles.field-0 c.in_ok-read_triangles.ensures.gives out
+
+pub returns-in-Ok-mesh_of-clause-gives : goal.returns-in-Ok-mesh_of-clause-gives
+returns-in-Ok-mesh_of-clause-gives c =
+    let s = c.args.settings.now in
+    let m = c.args.mesh in
+    let ts = c.in_ok-read_triangles.field-0 in
+    let same : c.as_mut_slice.result.now ≡ c.in_ok-read_triangles.field-0 = c.as_mut_slice.ensures.value ∙ c.into_vec-tris.ensures in
+    let none : first_outside c.args.settings.now (placed c.args.settings.now c.args.mesh c.in_ok-read_triangles.field-0) ≡ None = subst (λ (xs : List Tri). first_outside s (placed s m xs) ≡ None) same c.in-Ok.ensures.inside in
+    let as_long : length c.put_in_place.new.tris ≡ c.into_vec-tris.result.len = omega (arith, c.put_in_place.auto.tris, c.as_mut_slice.ensures.len) in
+    let stands : c.in-Ok-mesh_of.mesh ≡ placed c.args.settings.now c.args.mesh c.in_ok-read_triangles.field-0 = c.in-Ok-mesh_of.ensures ∙ (c.as_slice.ensures.value ∙ (written c.into_vec-tris.result.len c.put_in_place.new.tris c.into_vec-tris.result.items as_long ∙ (c.in-Ok.ensures.moved ∙ ap (placed s m) same))) in
+    mesh_placed s m c.args.bytes.now ts c.in-Ok-mesh_of.mesh c.in_ok-read_triangles.ensures.gives none stands
