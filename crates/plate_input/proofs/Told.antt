@@ -240,5 +240,8 @@ gather_one items before after refusal.ConsoleFault h files a told d quiet = absu
 pub few_extruders : (t : Task) (files : Option Files) (g : Gathered) → IsTask t → HasGathered t.items files g → length g.extruders ≤ 16
 few_extruders t files g k h = subst (λ (es : List ℕ). length es ≤ 16) (sym h.extruders) k.few
 
+pub some_extruders : (t : Task) (files : Option Files) (g : Gathered) → IsTask t → HasGathered t.items files g → 0 < length g.extruders
+some_extruders t files g k h = subst (λ (es : List ℕ). 0 < length es) (sym h.extruders) k.some
+
 pub extruders_below_eight : (t : Task) (files : Option Files) (g : Gathered) → IsTask t → HasGathered t.items files g → All (λ e. e < 8) g.extruders
 extruders_below_eight t files g k h = All-same (λ e. e < 8) g.extruders (item_extruders t.items) h.extruders k.below_eight

@@ -1,7 +1,8 @@
 -- The meshes that bytes give, in place.
-use Rattle.std.specs.Prelude.{ℕ, ◌≡◌, ◌+◌, ◌<◌, List, [], ◌∷◌, length, ◌⊎◌, Option, Some, None, Result, Ok, Err}
+use Rattle.std.specs.Prelude.{ℕ, ◌≡◌, ◌+◌, ◌<◌, ◌≤◌, List, [], ◌∷◌, length, ◌⊎◌, Option, Some, None, Result, Ok, Err}
 use Rattle.slice_base.specs.declared.points.Tri.{Tri}
 use Rattle.settings_core.specs.declared.resolved.Settings.{Settings}
+use Rattle.stl_text.specs.declared.gathered.TheConstants.{MOST_TRIANGLES}
 use Rattle.stl_text.specs.Mesh.{IsMesh, IsFault, HasTooMany}
 use Rattle.cross_section.specs.Place.{placed, first_outside}
 use Rattle.answers.specs.declared.refusal.Refusal.{Refusal}
@@ -55,7 +56,8 @@ MeshesGive s m (bytes ∷ files) (Ok []) = ⊥
 MeshesGive s m (bytes ∷ files) (Ok (tris ∷ meshes)) = IsPlaced s m bytes tris × MeshesGive s (m + 1) files (Ok meshes)
 MeshesGive s m (bytes ∷ files) (Err r) = MeshRefusal s m bytes r ⊎ (((tris : List Tri) × IsPlaced s m bytes tris) × MeshesGive s (m + 1) files (Err r))
 
--- a mesh has a triangle, and all its corners lie in the volume
+-- a mesh has a triangle and no more than a file may have, and all its corners lie in the volume
 pub record LiesInside (s : Settings) (tris : List Tri) : Type 0 where
   pub some : 0 < length tris
   pub inside : first_outside s tris ≡ None
+  pub few : length tris ≤ MOST_TRIANGLES

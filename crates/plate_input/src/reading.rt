@@ -1,6 +1,6 @@
 // Reads what a task asks to slice.
 
-ghost use Rattle.std.specs.Prelude.{◌≡◌, ◌⊎◌, ℕ, List, length, Some, Result, Err, IfOk};
+ghost use Rattle.std.specs.Prelude.{◌≡◌, ◌<◌, ◌⊎◌, ℕ, List, length, Some, Result, Err, IfOk};
 ghost use Rattle.std.specs.List.{All};
 ghost use Rattle.std.specs.Str.{IsUtf8};
 ghost use Rattle.slice_base.specs.Causes.{Rose};
@@ -38,6 +38,7 @@ pub fn read_plate<Sh: Shelf>(alloc: Global, task: &Task, shelf: &mut Sh) -> Resu
     ensures reads { ReadsFew task.now.items (Sh.store shelf.old) (Sh.store shelf.new) }
     ensures valid { IfOk result (λ p. IsValid p.settings) }
     ensures meshes { IfOk result (λ p. length p.meshes ≡ length p.settings.meshes) }
+    ensures some { IfOk result (λ p. 0 < length p.meshes) }
     ensures inside { IfOk result (λ p. All (LiesInside p.settings) p.meshes) }
 {
     let gathered = gather(alloc, task.items.items(), shelf)?;

@@ -81,12 +81,14 @@ pub(crate) fn make_plate(
     files: Items<Text>,
 ) -> Result<Plate, Refusal>
     requires few { length extruders.now ≤ 16 }
+    requires some { 0 < length extruders.now }
     requires below_eight { All (λ e. e < 8) extruders.now }
     requires as_many { length files ≡ length extruders.now }
     requires short { All (λ bytes. length bytes ≤ MOST_BYTES) files }
     ensures gives { Answers (SettledGives pairs.now extruders.now files) result }
     ensures valid { IfOk result (λ p. IsValid p.settings) }
     ensures meshes { IfOk result (λ p. length p.meshes ≡ length p.settings.meshes) }
+    ensures some { IfOk result (λ p. 0 < length p.meshes) }
     ensures inside { IfOk result (λ p. All (LiesInside p.settings) p.meshes) }
 {
     let settings = settle(alloc, pairs, extruders)?;
@@ -97,12 +99,14 @@ pub(crate) fn make_plate(
 /// The plate of all that was gathered, or the first refusal.
 pub(crate) fn finish(alloc: Global, gathered: Gathered) -> Result<Plate, Refusal>
     requires few { length gathered.extruders ≤ 16 }
+    requires some { 0 < length gathered.extruders }
     requires below_eight { All (λ e. e < 8) gathered.extruders }
     requires as_many { length gathered.meshes ≡ length gathered.extruders }
     requires short { All (λ bytes. length bytes ≤ MOST_BYTES) gathered.meshes }
     ensures gives { Answers (KeptGives gathered.pairs gathered.not_json gathered.extruders gathered.meshes) result }
     ensures valid { IfOk result (λ p. IsValid p.settings) }
     ensures meshes { IfOk result (λ p. length p.meshes ≡ length p.settings.meshes) }
+    ensures some { IfOk result (λ p. 0 < length p.meshes) }
     ensures inside { IfOk result (λ p. All (LiesInside p.settings) p.meshes) }
 {
     let Gathered {

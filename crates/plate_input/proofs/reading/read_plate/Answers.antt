@@ -4,7 +4,7 @@ use Rattle.std.specs.Str.{IsUtf8}
 use Rattle.std.proofs.lemmas.Result.{err_from_is_err_and}
 use Rattle.cli_words.specs.Command.{item_names}
 use Rattle.plate_input.specs.Gathering.{HasGathered, GatherRefusal}
-use Rattle.plate_input.proofs.Told.{gather_says, gather_one, finished_says, finished_one, few_extruders, extruders_below_eight}
+use Rattle.plate_input.proofs.Told.{gather_says, gather_one, finished_says, finished_one, few_extruders, some_extruders, extruders_below_eight}
 use Rattle.plate_input.proofs.reading.read_plate.Goals as goal
 
 pub gather-requires : goal.gather-requires
@@ -14,6 +14,11 @@ pub finish-requires-clause-few : goal.finish-requires-clause-few
 finish-requires-clause-few g c =
     let files = (g.Sh.Shelf.store c.args.shelf.now).files in
     few_extruders c.args.task.now files c.in_ok-gathered.gathered c.requires.task (subst (λ is. HasGathered is files c.in_ok-gathered.gathered) c.items.ensures c.in_ok-gathered.ensures.gathered)
+
+pub finish-requires-clause-some : goal.finish-requires-clause-some
+finish-requires-clause-some g c =
+    let files = (g.Sh.Shelf.store c.args.shelf.now).files in
+    some_extruders c.args.task.now files c.in_ok-gathered.gathered c.requires.task (subst (λ is. HasGathered is files c.in_ok-gathered.gathered) c.items.ensures c.in_ok-gathered.ensures.gathered)
 
 pub finish-requires-clause-below_eight : goal.finish-requires-clause-below_eight
 finish-requires-clause-below_eight g c =
