@@ -37,7 +37,12 @@ impl Block<'_> {
 
     // The solid's file, without the facet of that number where one is left out. Its corners are written
     // in this order: 0, 1, 2 faces outward, 0, 2, 1 inward.
-    pub(crate) fn text(&self, alloc: Global, left_out: Option<usize>, order: [usize; 3]) -> Result<String, AllocError> {
+    pub(crate) fn text(
+        &self,
+        alloc: Global,
+        left_out: Option<usize>,
+        order: [usize; 3],
+    ) -> Result<String, AllocError> {
         let mut text = String::from_str(alloc, "solid box\n")?;
         for (i, facet) in FACETS.iter().enumerate() {
             if left_out == Some(i) {

@@ -6,6 +6,7 @@ use std::alloc::Global;
 use std::test::Fail;
 
 const OUTWARD: [usize; 3] = [0, 1, 2];
+
 const INWARD: [usize; 3] = [0, 2, 1];
 
 fn slice(alloc: Global, line: &str, mesh: &[u8]) -> Result<Ended, Fail> {
@@ -20,7 +21,10 @@ fn starts(whole: &[u8], front: &[u8]) -> bool {
 fn the_volume_ends_at_its_last_micron(rt: HostRuntime) -> Result<(), Fail> {
     for (x, said) in [
         ("200.000", b"sliced 2 layers\n".as_slice()),
-        ("200.001", b"error: outside the volume: mesh 0 triangle 0\n".as_slice()),
+        (
+            "200.001",
+            b"error: outside the volume: mesh 0 triangle 0\n".as_slice(),
+        ),
     ] {
         let block = Block {
             low: ["0", "0", "0"],
@@ -74,7 +78,11 @@ fn a_hole_in_a_mesh_is_closed_or_told(rt: HostRuntime) -> Result<(), Fail> {
 #[test]
 fn a_mesh_that_lies_wrong_is_named(rt: HostRuntime) -> Result<(), Fail> {
     for (low, high, said) in [
-        ("-1", "1", b"error: outside the volume: mesh 0 triangle 0\n".as_slice()),
+        (
+            "-1",
+            "1",
+            b"error: outside the volume: mesh 0 triangle 0\n".as_slice(),
+        ),
         ("0", "0", b"error: no layers\n".as_slice()),
     ] {
         let block = Block {
@@ -107,7 +115,9 @@ M84
 ";
 
 #[test]
-fn a_mesh_turned_inside_out_has_its_outline_the_other_way_round(rt: HostRuntime) -> Result<(), Fail> {
+fn a_mesh_turned_inside_out_has_its_outline_the_other_way_round(
+    rt: HostRuntime,
+) -> Result<(), Fail> {
     let block = Block {
         low: ["0", "0", "0"],
         high: ["9", "9", "0.3"],
@@ -132,7 +142,12 @@ fn two_solids_in_one_file_are_one_mesh(rt: HostRuntime) -> Result<(), Fail> {
     text.push_str(far.text(rt.alloc(), None, OUTWARD)?.as_str())?;
     let ended = slice(rt.alloc(), "serial -l m -o o", text.as_bytes())?;
     assert!(rt; ended.console.bytes() == b"sliced 2 layers\n".as_slice());
-    let travels = ended.sink.bytes().windows(3).filter(|w| *w == b"G0 ".as_slice()).count();
+    let travels = ended
+        .sink
+        .bytes()
+        .windows(3)
+        .filter(|w| *w == b"G0 ".as_slice())
+        .count();
     assert!(rt; travels == 3);
     Ok(())
 }

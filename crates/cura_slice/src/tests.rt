@@ -44,7 +44,10 @@ pub(crate) fn run(alloc: Global, line: &str, outside: Outside) -> Result<Ended, 
     }
     let mut files = Vec::new(alloc);
     for (name, bytes) in outside.files {
-        files.push((Text::of(alloc, name.as_bytes())?, Vec::from_slice(alloc, bytes)?))?;
+        files.push((
+            Text::of(alloc, name.as_bytes())?,
+            Vec::from_slice(alloc, bytes)?,
+        ))?;
     }
     let mut shelf = MemShelf::of(files, Vec::from_slice(alloc, outside.failing_reads)?);
     let failing = Vec::from_slice(alloc, outside.failing_writes)?;
@@ -101,7 +104,8 @@ fn two_meshes_stand_side_by_side(rt: HostRuntime) -> Result<(), Fail> {
     Ok(())
 }
 
-const SETTINGS: &[u8] = b"{\"version\":1,\"settings\":{\"layer_height\":\"0.1\",\"wall_line_count\":3},\"extruders\":[{},{\"material_flow\":\"95\"}]}";
+const SETTINGS: &[u8] =
+    b"{\"version\":1,\"settings\":{\"layer_height\":\"0.1\",\"wall_line_count\":3},\"extruders\":[{},{\"material_flow\":\"95\"}]}";
 
 const BAD_FACET: &[u8] = b"solid a
 facet normal 0 0 1
@@ -135,21 +139,77 @@ fn each_refusal_names_its_cause(rt: HostRuntime) -> Result<(), Fail> {
         ("slice -l t -o o", 1, b"error: not built: 1\n"),
         ("gen 7 -o o", 1, b"error: not built: 1\n"),
         ("serial -l u -j v -o o", 4, b"error: cannot read u\n"),
-        ("serial -j list -l t -o o", 2, b"error: not a settings file: list\n"),
-        ("serial -l bad -j half -o o", 2, b"error: not a settings file: half\n"),
-        ("serial -o g -s layer_height=abc -l bad", 2, b"error: bad value: global layer_height\n"),
-        ("serial -o g -s machine_width=0 -l bad", 2, b"error: out of range: global machine_width\n"),
-        ("serial -o g -l t -e1 -s material_flow=0 -l t", 2, b"error: out of range: extruder 1 material_flow\n"),
-        ("serial -o g -l t -l t -s wall_line_count=x", 2, b"error: bad value: mesh 1 wall_line_count\n"),
-        ("serial -e1 -l t -o g", 2, b"error: unknown extruder: mesh 0\n"),
-        ("serial -o g -l t -l bad", 3, b"error: bad STL: mesh 1 line 5\n"),
-        ("serial -o g -l empty -l bad", 3, b"error: no triangles: mesh 0\n"),
-        ("serial -o g -l t -s mesh_position_z=-0.001", 3, b"error: outside the volume: mesh 0 triangle 0\n"),
-        ("serial -o g -s layer_height_0=0.6 -l t", 3, b"error: no layers\n"),
-        ("serial -o g -l t -s layer_height_0=0.6", 0, b"sliced 1 layers\n"),
-        ("serial -o g -l t -g -s layer_height_0=0.601", 3, b"error: no layers\n"),
+        (
+            "serial -j list -l t -o o",
+            2,
+            b"error: not a settings file: list\n",
+        ),
+        (
+            "serial -l bad -j half -o o",
+            2,
+            b"error: not a settings file: half\n",
+        ),
+        (
+            "serial -o g -s layer_height=abc -l bad",
+            2,
+            b"error: bad value: global layer_height\n",
+        ),
+        (
+            "serial -o g -s machine_width=0 -l bad",
+            2,
+            b"error: out of range: global machine_width\n",
+        ),
+        (
+            "serial -o g -l t -e1 -s material_flow=0 -l t",
+            2,
+            b"error: out of range: extruder 1 material_flow\n",
+        ),
+        (
+            "serial -o g -l t -l t -s wall_line_count=x",
+            2,
+            b"error: bad value: mesh 1 wall_line_count\n",
+        ),
+        (
+            "serial -e1 -l t -o g",
+            2,
+            b"error: unknown extruder: mesh 0\n",
+        ),
+        (
+            "serial -o g -l t -l bad",
+            3,
+            b"error: bad STL: mesh 1 line 5\n",
+        ),
+        (
+            "serial -o g -l empty -l bad",
+            3,
+            b"error: no triangles: mesh 0\n",
+        ),
+        (
+            "serial -o g -l t -s mesh_position_z=-0.001",
+            3,
+            b"error: outside the volume: mesh 0 triangle 0\n",
+        ),
+        (
+            "serial -o g -s layer_height_0=0.6 -l t",
+            3,
+            b"error: no layers\n",
+        ),
+        (
+            "serial -o g -l t -s layer_height_0=0.6",
+            0,
+            b"sliced 1 layers\n",
+        ),
+        (
+            "serial -o g -l t -g -s layer_height_0=0.601",
+            3,
+            b"error: no layers\n",
+        ),
         ("serial -j s -l t -o o", 0, b"sliced 1 layers\n"),
-        ("serial -l t -v -p -m7 --journal -s adhesion_type=skirt -o o", 0, b"sliced 1 layers\n"),
+        (
+            "serial -l t -v -p -m7 --journal -s adhesion_type=skirt -o o",
+            0,
+            b"sliced 1 layers\n",
+        ),
     ];
     for (line, status, said) in rows {
         let ended = run(rt.alloc(), line, with_files(&files))?;

@@ -81,9 +81,9 @@ pub one_planned : (task : Task) (files : List (List ℕ × List ℕ)) (plate : P
 one_planned task files plate output o (Ok job) only out lines g =
     let same : plate ≡ g.plate = plate_is plate g.plate (only (Ok g.plate) g.reads) in
     inl (ap Ok (job_is job output plate.settings o
-        (same_out task.out output job.output out g.output)
-        (ap (λ p. p.settings) same ∙ sym g.settings)
-        (outlines_are o job.outlines (lines (Ok job.outlines) (subst (λ p. OutlinesGive p.settings p.meshes (Ok job.outlines)) (sym same) g.outlines)))))
+    (same_out task.out output job.output out g.output)
+    (ap (λ p. p.settings) same ∙ sym g.settings)
+    (outlines_are o job.outlines (lines (Ok job.outlines) (subst (λ p. OutlinesGive p.settings p.meshes (Ok job.outlines)) (sym same) g.outlines)))))
 one_planned task files plate output o (Err x) only out lines (inl p) = absurd (not_refused plate x (only (Err x) p))
 one_planned task files plate output o (Err x) only out lines (inr u) =
     let same : plate ≡ u.plate = plate_is plate u.plate (only (Ok u.plate) u.reads) in

@@ -17,20 +17,20 @@ pub returns-in_err-plate-clause-one : goal.returns-in_err-plate-clause-one
 returns-in_err-plate-clause-one g c = λ files a told gives quiet.
     let p = err_from_is_err_and c.from_residual.result c.from_residual.ensures.1 in
     subst (λ r. (r ≡ a) ⊎ (r ≡ Err refusal.NoMemory)) (sym (p.1 ∙ ap Err p.2))
-      (one_refused c.args.task files c.in_err-plate.field-0.0 a (λ b q. c.in_err-plate.ensures.one files b told q quiet) gives)
+    (one_refused c.args.task files c.in_err-plate.field-0.0 a (λ b q. c.in_err-plate.ensures.one files b told q quiet) gives)
 
 pub returns-in-Ok-clause-one : goal.returns-in-Ok-clause-one
 returns-in-Ok-clause-one g c = λ files a told gives quiet.
     one_planned c.args.task files c.in_ok-plate.plate c.in-Some.output c.in-Ok.outlines a
-      (λ b p. c.in_ok-plate.ensures.one files b told p quiet)
-      c.in-Some.is
-      (λ b p. c.in-Ok.ensures.one b (subst (λ ms. OutlinesGive c.in_ok-plate.plate.settings ms b) (sym c.items.ensures) p))
-      gives
+    (λ b p. c.in_ok-plate.ensures.one files b told p quiet)
+    c.in-Some.is
+    (λ b p. c.in-Ok.ensures.one b (subst (λ ms. OutlinesGive c.in_ok-plate.plate.settings ms b) (sym c.items.ensures) p))
+    gives
 
 pub returns-clause-one : goal.returns-clause-one
 returns-clause-one g c = λ files a told gives quiet.
     subst (λ r. (Err r ≡ a) ⊎ (◌≡◌ {A = Result Job Refusal} (Err r) (Err refusal.NoMemory))) (sym c.refusal_of_outlines.ensures)
-      (one_unfit c.args.task files c.in_ok-plate.plate c.in-Err.fault a
-        (λ b p. c.in_ok-plate.ensures.one files b told p quiet)
-        (λ b p. c.in-Err.ensures.one b (subst (λ ms. OutlinesGive c.in_ok-plate.plate.settings ms b) (sym c.items.ensures) p))
-        gives)
+    (one_unfit c.args.task files c.in_ok-plate.plate c.in-Err.fault a
+    (λ b p. c.in_ok-plate.ensures.one files b told p quiet)
+    (λ b p. c.in-Err.ensures.one b (subst (λ ms. OutlinesGive c.in_ok-plate.plate.settings ms b) (sym c.items.ensures) p))
+    gives)

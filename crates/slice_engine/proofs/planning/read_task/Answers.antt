@@ -15,4 +15,4 @@ pub returns-clause-refused : goal.returns-clause-refused
 returns-clause-refused c =
     let cmd = command_of (map string_bytes c.args.words.now) in
     subst (λ r. ((r ≡ refusal.NoMemory) × IsOk cmd) ⊎ WordsGive cmd r) (sym c.refusal_of_words.ensures)
-      (words_refused cmd c.in-Err.fault (λ e. c.in-Err.ensures.no_memory (ap Err e)) (λ n e. (c.in-Err.ensures.bad_word n).0 (ap Err e)) (λ e. c.in-Err.ensures.no_input.0 (ap Err e)) (λ e. c.in-Err.ensures.no_output.0 (ap Err e)))
+    (words_refused cmd c.in-Err.fault (λ e. c.in-Err.ensures.no_memory (ap Err e)) (λ n e. (c.in-Err.ensures.bad_word n).0 (ap Err e)) (λ e. c.in-Err.ensures.no_input.0 (ap Err e)) (λ e. c.in-Err.ensures.no_output.0 (ap Err e)))
