@@ -12,7 +12,7 @@ use Rattle.outline_file.specs.declared.answers.OutlineFault.{OutlineFault}
 use Rattle.outline_file.specs.declared.answers.OutlineFault.TheVariants as outline
 use Rattle.outline_file.specs.Layers.{OutlinesGive}
 use Rattle.slice_engine.specs.declared.jobs.Job.{Job}
-use Rattle.slice_engine.specs.Job.{IsJobOf, TaskGives, outline_refusal}
+use Rattle.slice_engine.specs.Job.{TaskGives, outline_refusal}
 
 -- the plate that was read, or want of memory, is whatever the items and the files define
 abbrev pub IsOnlyPlate : Task → List (List ℕ × List ℕ) → Result Plate Refusal → Type 0

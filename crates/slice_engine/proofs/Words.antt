@@ -12,7 +12,7 @@ use Rattle.cli_words.specs.declared.command.WordFault.TheVariants as fault
 use Rattle.outline_file.specs.declared.answers.OutlineFault.{OutlineFault}
 use Rattle.outline_file.specs.declared.answers.OutlineFault.TheVariants as outline
 use Rattle.slice_engine.specs.declared.jobs.Job.{Job}
-use Rattle.slice_engine.specs.Job.{WordsGive, IsWordsAnswer, CommandGives, word_refusal, outline_refusal, HasUnfitPlate}
+use Rattle.slice_engine.specs.Job.{WordsGive, IsWordsAnswer, CommandGives, word_refusal, outline_refusal}
 use Rattle.slice_engine.specs.Answers.{SaysPlanned}
 
 -- a name in front of others

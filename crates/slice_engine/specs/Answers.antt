@@ -1,5 +1,5 @@
 -- What each answer says.
-use Rattle.std.specs.Prelude.{ℕ, ◌≡◌, ◌≤◌, ◌+◌, List, length, ◌⊎◌, Option, Some, None, Result, Ok, Err, IsOk}
+use Rattle.std.specs.Prelude.{ℕ, ◌≡◌, List, length, ◌⊎◌, Option, Some, None, Result, Ok, Err, IsOk}
 use Rattle.outside.specs.Store.{Store}
 use Rattle.outside.specs.Output.{Output, Put, PutFront}
 use Rattle.answers.specs.declared.refusal.Refusal.{Refusal}

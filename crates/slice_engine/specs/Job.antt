@@ -1,6 +1,5 @@
 -- What words and files define: a job, or its first refusal.
 use Rattle.std.specs.Prelude.{ℕ, ◌≡◌, List, ◌⊎◌, Option, Some, Result, Ok, Err}
-use Rattle.slice_base.specs.declared.points.Tri.{Tri}
 use Rattle.answers.specs.declared.refusal.Refusal.{Refusal}
 use Rattle.answers.specs.declared.refusal.Refusal.TheVariants as refusal
 use Rattle.cli_words.specs.declared.command.Command.{Command}

@@ -1,4 +1,4 @@
-use Rattle.std.proofs.Common.{◌≡◌, map, string_bytes}
+use Rattle.std.proofs.Common.{map, string_bytes}
 use Rattle.cli_words.specs.Command.{command_of}
 use Rattle.slice_engine.proofs.Words.{says_words}
 use Rattle.slice_engine.proofs.planning.plan_job.Goals as goal
