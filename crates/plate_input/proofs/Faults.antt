@@ -1,8 +1,7 @@
 -- A fault of pairs is that of one of them.
-use Rattle.std.proofs.Common.{ℕ, suc, ◌∙◌, ◌≡◌, ◌+◌, ◌<◌, ◌≤◌, Bool, true, false, cond, List, [], ◌∷◌, length, get_or, ◌⊎◌, inl, inr, Option, Some, None, Result, Ok, Err, arith, refl, sym, ap, subst}
-use Rattle.std.specs.Prelude.{ℤ, if◌then◌else◌, nat_lt, ◌≢◌, ◌↔◌}
+use Rattle.std.proofs.Common.{ℕ, suc, ◌∙◌, ◌≡◌, ◌+◌, ◌<◌, ◌≤◌, Bool, true, false, cond, List, [], ◌∷◌, length, get_or, ◌⊎◌, inl, inr, Option, Some, None, Result, Err, arith, refl, sym, ap, subst}
+use Rattle.std.specs.Prelude.{ℤ, nat_lt, ◌≢◌, ◌↔◌}
 use Rattle.std.specs.Option.{option_or}
-use Rattle.std.specs.List.{slice_get}
 use Rattle.std.proofs.lemmas.Option.{slice_get-get_or}
 use Rattle.settings_core.specs.declared.fault.SettingFault.{SettingFault}
 use Rattle.settings_core.specs.declared.fault.SettingFault.TheVariants.{BadValue, OutOfRange, UnknownExtruder, NoMemory}

@@ -1,5 +1,5 @@
 -- Items that were taken one after another.
-use Rattle.std.proofs.Common.{ℕ, zero, suc, ◌≡◌, ◌+◌, ◌<◌, ◌≤◌, ◌^◌, List, [], ◌∷◌, ◌++◌, length, Option, Some, None, Result, Ok, Err, arith, refl, sym, ap, ◌∙◌, subst, append_assoc, length-append, add-one, min, get_or, drop}
+use Rattle.std.proofs.Common.{ℕ, suc, ◌≡◌, ◌+◌, ◌<◌, ◌≤◌, List, [], ◌∷◌, ◌++◌, length, Option, Some, None, Result, Ok, Err, arith, refl, sym, ap, ◌∙◌, subst, append_assoc, length-append, add-one, get_or, drop}
 use Rattle.std.proofs.Math.Seq.{drop-cons}
 use Rattle.std.proofs.lemmas.List.{drop_all}
 use Rattle.std.specs.List.{All}
@@ -20,7 +20,7 @@ use Rattle.plate_input.specs.declared.files.TheConstants.{MOST_BYTES}
 use Rattle.plate_input.specs.declared.gathered.Gathered.{Gathered}
 use Rattle.plate_input.specs.Reading.{AreFiles, FirstTooLong, in_front, file_in_front, pairs_of, mesh_bytes}
 use Rattle.plate_input.specs.Answers.{counted_by, FailedRead, ReadsFew}
-use Rattle.plate_input.specs.Gathering.{ReadOnce, IsRead, FailedOnce, FileRefusal, first_name, with_pairs, with_settings, with_mesh, TookFile, Took, Touched, Refused, outcome, HasGathered, GatherRefusal}
+use Rattle.plate_input.specs.Gathering.{ReadOnce, IsRead, FailedOnce, FileRefusal, first_name, with_pairs, with_settings, with_mesh, Took, Touched, Refused, outcome, HasGathered, GatherRefusal}
 
 abbrev Names : Type 0
 Names = List (List ℕ)

@@ -1,17 +1,15 @@
 -- What is known of a mesh once it was tried to be put in place.
-use Rattle.std.proofs.Common.{ℕ, ◌≡◌, ◌<◌, ◌≤◌, List, [], ◌∷◌, ◌++◌, length, take, drop, ◌⊎◌, inl, inr, Option, Some, None, Result, Ok, Err, arith, refl, sym, ap, ◌∙◌, subst}
+use Rattle.std.proofs.Common.{ℕ, ◌≡◌, ◌<◌, List, [], ◌∷◌, ◌++◌, length, take, drop, inl, inr, Option, Some, None, Result, Ok, Err, arith, refl, sym, ap, ◌∙◌}
 use Rattle.std.proofs.Math.Seq.{take-append_seam}
 use Rattle.slice_base.specs.declared.points.Tri.{Tri}
 use Rattle.settings_core.specs.declared.resolved.Settings.{Settings}
 use Rattle.settings_core.specs.declared.resolved.MeshSettings.{MeshSettings}
 use Rattle.std.specs.List.{slice_get}
-use Rattle.stl_text.specs.Mesh.{IsMesh}
 use Rattle.cross_section.specs.Place.{placed, placed_with, first_outside}
 use Rattle.answers.specs.declared.refusal.Refusal.{Refusal}
 use Rattle.answers.specs.declared.refusal.Refusal.TheVariants as refusal
-use Rattle.plate_input.specs.Meshes.{ReadRefusal, TrianglesGive, IsPlaced, IsOutside, MeshRefusal, MeshGives}
+use Rattle.plate_input.specs.Meshes.{ReadRefusal, TrianglesGive, IsOutside, MeshRefusal, MeshGives}
 use Rattle.plate_input.specs.Answers.{IsOnly, Answers}
-use Rattle.plate_input.proofs.Readings.{ReadCause, bad, many, empty, read_cause}
 
 abbrev Tris : Type 0
 Tris = Result (List Tri) Refusal

@@ -1,5 +1,5 @@
 -- What the answers of the reader of meshes say of a mesh's file.
-use Rattle.std.proofs.Common.{ℕ, ◌≡◌, ◌<◌, ◌≤◌, List, [], ◌∷◌, length, Vec, Global, ◌⊎◌, inl, inr, Option, Some, None, Result, Ok, Err, arith, refl, sym, ap, ◌∙◌, subst}
+use Rattle.std.proofs.Common.{ℕ, ◌≡◌, ◌<◌, List, [], ◌∷◌, length, Vec, Global, inr, Result, Ok, Err, arith, refl, sym, ap, ◌∙◌, subst}
 use Rattle.std.specs.Prelude.{MatchResult, ◌↔◌, ◌==◌, Bool, true, false}
 use Rattle.std.proofs.lemmas.Bool.{eqb-true, eqb-false}
 use Rattle.slice_base.specs.declared.points.Tri.{Tri}
@@ -9,7 +9,7 @@ use Rattle.stl_text.specs.Mesh.{IsMesh, IsFault, HasTooMany}
 use Rattle.answers.specs.declared.refusal.Refusal.{Refusal}
 use Rattle.answers.specs.declared.refusal.Refusal.TheVariants as refusal
 use Rattle.plate_input.specs.Meshes.{ReadRefusal, TrianglesGive}
-use Rattle.plate_input.specs.Answers.{IsOnly, Answers}
+use Rattle.plate_input.specs.Answers.{Answers}
 
 -- the three refusals of a mesh's file
 pub data ReadCause : ℕ → List ℕ → Refusal → Type 0 where

@@ -1,11 +1,11 @@
 -- Meshes that were put in place one after another.
-use Rattle.std.proofs.Common.{ℕ, ◌≡◌, ◌+◌, ◌<◌, ◌≤◌, List, [], ◌∷◌, ◌++◌, length, ◌⊎◌, inl, inr, Result, Ok, Err, arith, refl, sym, ap, ◌∙◌, subst, append_assoc}
+use Rattle.std.proofs.Common.{ℕ, ◌≡◌, ◌+◌, List, [], ◌∷◌, ◌++◌, length, inl, inr, Result, Ok, Err, arith, refl, sym, ap, ◌∙◌, subst, append_assoc}
 use Rattle.std.proofs.lemmas.List.{append-nil}
 use Rattle.slice_base.specs.declared.points.Tri.{Tri}
 use Rattle.settings_core.specs.declared.resolved.Settings.{Settings}
 use Rattle.answers.specs.declared.refusal.Refusal.{Refusal}
 use Rattle.answers.specs.declared.refusal.Refusal.TheVariants as refusal
-use Rattle.plate_input.specs.Meshes.{IsPlaced, MeshRefusal, MeshGives, MeshesGive}
+use Rattle.plate_input.specs.Meshes.{IsPlaced, MeshGives, MeshesGive}
 use Rattle.plate_input.specs.Answers.{IsOnly, Answers}
 
 abbrev All_of : Type 0

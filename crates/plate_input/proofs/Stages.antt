@@ -1,5 +1,5 @@
 -- What settings and meshes make of a plate.
-use Rattle.std.proofs.Common.{ℕ, ◌≡◌, ◌+◌, ◌<◌, ◌≤◌, List, [], ◌∷◌, ◌++◌, length, ◌⊎◌, inl, inr, Option, Some, None, Result, Ok, Err, arith, refl, sym, ap, ◌∙◌, subst}
+use Rattle.std.proofs.Common.{ℕ, ◌≡◌, ◌+◌, List, [], ◌∷◌, inl, inr, Option, Some, None, Result, Ok, Err, refl, sym, ap, ◌∙◌, subst}
 use Rattle.std.specs.List.{slice_get}
 use Rattle.slice_base.specs.declared.points.Tri.{Tri}
 use Rattle.settings_core.specs.declared.pairs.Scope.{Scope}
@@ -11,8 +11,8 @@ use Rattle.settings_core.specs.Resolve.{settings_of, fault_of}
 use Rattle.answers.specs.declared.refusal.Refusal.{Refusal}
 use Rattle.answers.specs.declared.refusal.Refusal.TheVariants as refusal
 use Rattle.plate_input.specs.declared.plates.Plate.{Plate}
-use Rattle.plate_input.specs.Meshes.{MeshRefusal, MeshesGive}
-use Rattle.plate_input.specs.Plate.{IsPlate, HasFaultyPair, HasBadMesh, SettingRefusal, SettledGives}
+use Rattle.plate_input.specs.Meshes.{MeshesGive}
+use Rattle.plate_input.specs.Plate.{IsPlate, HasBadMesh, SettingRefusal, SettledGives}
 use Rattle.plate_input.specs.Answers.{IsOnly, Answers}
 use Rattle.plate_input.proofs.Readings.{ReadCause, bad, many, empty, read_cause}
 use Rattle.plate_input.proofs.Placings.{MeshCause, unread, outside, mesh_cause}

@@ -1,5 +1,5 @@
 -- What the files of items make of an answer.
-use Rattle.std.proofs.Common.{ℕ, ◌≡◌, ◌+◌, ◌<◌, ◌≤◌, List, [], ◌∷◌, ◌++◌, length, ◌⊎◌, inl, inr, Option, Some, None, Result, Ok, Err, arith, refl, sym, ap, ◌∙◌, subst}
+use Rattle.std.proofs.Common.{ℕ, ◌≡◌, ◌<◌, ◌≤◌, List, [], ◌∷◌, ◌++◌, length, ◌⊎◌, inl, inr, Option, Some, None, Result, Ok, Err, arith, refl, sym, ap, ◌∙◌, subst}
 use Rattle.std.specs.Prelude.{IsSomeAnd}
 use Rattle.std.specs.List.{All}
 use Rattle.std.proofs.lemmas.List.Elements.{All-same}
@@ -15,10 +15,10 @@ use Rattle.answers.specs.declared.refusal.Refusal.TheVariants as refusal
 use Rattle.plate_input.specs.declared.files.TheConstants.{MOST_BYTES}
 use Rattle.plate_input.specs.declared.plates.Plate.{Plate}
 use Rattle.plate_input.specs.declared.gathered.Gathered.{Gathered}
-use Rattle.plate_input.specs.Reading.{AreFiles, FirstTooLong, FirstNotJson, HasPairs, pairs_of, mesh_bytes}
+use Rattle.plate_input.specs.Reading.{AreFiles, FirstTooLong, FirstNotJson, pairs_of, mesh_bytes}
 use Rattle.plate_input.specs.Gathering.{outcome, HasGathered, GatherRefusal}
 use Rattle.plate_input.specs.Plate.{SettledGives, KeptGives, GivesSettled, PlateGives}
-use Rattle.plate_input.specs.Answers.{FailedRead, IsOnly, Answers, SaysPlate}
+use Rattle.plate_input.specs.Answers.{Answers, SaysPlate}
 
 abbrev Names : Type 0
 Names = List (List ℕ)

@@ -1,5 +1,5 @@
 -- What an answer says.
-use Rattle.std.specs.Prelude.{ℕ, zero, suc, ◌≡◌, ◌+◌, ◌≤◌, List, ◌∷◌, ◌++◌, length, ◌⊎◌, Some, Result, Ok, Err}
+use Rattle.std.specs.Prelude.{ℕ, zero, suc, ◌≡◌, ◌+◌, ◌≤◌, List, ◌∷◌, ◌++◌, length, ◌⊎◌, Some, Result, Err}
 use Rattle.slice_base.specs.Causes.{Rose, counted}
 use Rattle.outside.specs.Store.{Store}
 use Rattle.cli_words.specs.declared.command.Item.{Item}

@@ -1,5 +1,5 @@
 -- What is kept of the items so far.
-use Rattle.std.specs.Prelude.{ℕ, suc, ◌≡◌, ◌≤◌, List, [], ◌∷◌, ◌++◌, length, Option, Some, None, Result, Ok, Err}
+use Rattle.std.specs.Prelude.{ℕ, ◌≡◌, ◌≤◌, List, [], ◌∷◌, ◌++◌, length, Option, Some, None, Result, Ok, Err}
 use Rattle.std.specs.List.{All}
 use Rattle.slice_base.specs.Causes.{Rose, counted}
 use Rattle.settings_core.specs.declared.pairs.Pair.{Pair}

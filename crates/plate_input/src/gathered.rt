@@ -126,7 +126,7 @@ fn take<Sh: Shelf>(
     }
 }
 
-/// Reads all files in the order of the items, up to the first at fault.
+/// Reads all files in the order of the items, up to the first that can't be read or is too long.
 pub(crate) fn gather<Sh: Shelf>(
     alloc: Global,
     items: &[Item],

@@ -22,9 +22,9 @@ use std::alloc::Global;
 
 /// The plate that a task and the files of the shelf define, or the first refusal.
 ///
-/// All files are read before any is parsed, in the order of the words. Then come the settings files,
-/// the settings, and the meshes one by one. A fault of the shelf or want of memory may come in place of
-/// any other answer; the files of the shelf stay as they are.
+/// All files are read, in the order of the words, before any fault of their content is told. Then come the
+/// settings files, the settings, and the meshes one by one. A fault of the shelf or want of memory may
+/// come in place of any other answer; the files of the shelf stay as they are.
 pub fn read_plate<Sh: Shelf>(alloc: Global, task: &Task, shelf: &mut Sh) -> Result<Plate, Refusal>
     requires task { IsTask task.now }
     requires utf8 { All IsUtf8 (item_names task.now.items) }

@@ -1,5 +1,10 @@
 // Worked tasks over files in memory.
 
+ghost use Rattle.std.specs.Prelude.{IfOk, IfSome};
+ghost use Rattle.std.specs.List.{All};
+ghost use Rattle.std.specs.Str.{IsUtf8};
+ghost use Rattle.cli_words.specs.Command.{IsTask, item_names};
+
 use crate::{Plate, read_plate};
 use answers::Refusal;
 use cli_words::{Command, Task, read_words};
@@ -33,7 +38,10 @@ fn shelf(alloc: Global) -> Result<MemShelf, Fail> {
     Ok(MemShelf::of(files, Vec::new(alloc)))
 }
 
-fn task(alloc: Global, line: &str) -> Result<Option<Task>, Fail> {
+fn task(alloc: Global, line: &str) -> Result<Option<Task>, Fail>
+    ensures sound { IfOk result (λ found. IfSome found IsTask) }
+    ensures utf8 { IfOk result (λ found. IfSome found (λ t. All IsUtf8 (item_names t.items))) }
+{
     let mut words = Vec::new(alloc);
     for word in line.split_whitespace() {
         words.push(String::from_str(alloc, word)?)?;

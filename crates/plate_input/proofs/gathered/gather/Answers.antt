@@ -1,6 +1,6 @@
-use Rattle.std.proofs.Common.{◌≡◌, ◌+◌, ◌<◌, ◌≤◌, ◌∷◌, Err, drop, length, arith, ap, ◌∙◌}
+use Rattle.std.proofs.Common.{◌≡◌, ◌+◌, ◌<◌, ◌≤◌, Err, drop, length, arith, ap, ◌∙◌}
 use Rattle.std.proofs.lemmas.Result.{err_from_is_err_and}
-use Rattle.plate_input.proofs.Gathers.{Gathering, gathering_at, utf8_at, utf8_here, utf8_rest, refused, few_touched, goes_on, ended_at}
+use Rattle.plate_input.proofs.Gathers.{gathering_at, utf8_at, utf8_here, utf8_rest, refused, few_touched, goes_on, ended_at}
 use Rattle.plate_input.proofs.gathered.gather.Goals as goal
 
 pub take-requires : goal.take-requires

@@ -1,9 +1,7 @@
-use Rattle.std.proofs.Common.{◌≡◌, ◌+◌, ◌≤◌, ◌∷◌, ◌++◌, [], Err, List, length, arith, sym, ap, ◌∙◌, subst, length-append}
-use Rattle.std.specs.List.{All}
+use Rattle.std.proofs.Common.{◌≡◌, ◌≤◌, ◌∷◌, ◌++◌, [], Err, length, arith, sym, ap, ◌∙◌, length-append}
 use Rattle.std.specs.Vec.Iter.{into_iter_items}
 use Rattle.std.proofs.lemmas.Result.{err_from_is_err_and}
 use Rattle.std.proofs.lemmas.List.Elements.{All-push, All-rest, All-same}
-use Rattle.slice_base.specs.declared.points.Tri.{Tri}
 use Rattle.plate_input.specs.declared.files.TheConstants.{MOST_BYTES}
 use Rattle.plate_input.specs.Meshes.{LiesInside}
 use Rattle.plate_input.proofs.Rows.{more_at, refused_at, ended_at}

@@ -1,4 +1,4 @@
-use Rattle.std.proofs.Common.{◌≡◌, ◌<◌, sym, ap, length, subst}
+use Rattle.std.proofs.Common.{◌≡◌, ◌<◌, length, subst}
 use Rattle.plate_input.proofs.Readings.{answer_ok, answer_empty, answer_bad, answer_many, is_zero, not_zero}
 use Rattle.plate_input.proofs.meshes.read_triangles.Goals as goal
 

@@ -1,4 +1,3 @@
-use Rattle.std.proofs.Common.{◌≡◌, sym}
 use Rattle.plate_input.proofs.Faults.{bad_value_is, out_of_range_is, unknown_is, bad_value_below, out_of_range_below, bad_value_refused, out_of_range_refused, as_many_meshes}
 use Rattle.plate_input.proofs.settled.settle.Goals as goal
 
