@@ -1,10 +1,11 @@
 -- Triangles filed by height give the section at each height.
-use Rattle.std.proofs.Common.{◌≡◌, ◌≤◌, ◌<◌, ◌+◌, ◌/◌, ◌∙◌, ◌++◌, ◌⊎◌, inl, inr, ℕ, zero, suc, ℤ, ◌≤ℤ◌, ◌<ℤ◌, ◌-ℤ◌, Bool, true, false, cond, ◌&&◌, List, [], ◌∷◌, length, get_or, take, leb, ltb, append-nil, Option, None, arith, refl, sym, ap, subst}
+use Rattle.std.proofs.Common.{◌≡◌, ◌≤◌, ◌<◌, ◌+◌, ◌*◌, ◌/◌, ◌∙◌, ◌++◌, ◌⊎◌, inl, inr, ℕ, zero, suc, ℤ, ◌≤ℤ◌, ◌<ℤ◌, ◌-ℤ◌, Bool, true, false, cond, ◌&&◌, List, [], ◌∷◌, length, get_or, take, leb, ltb, max, append-nil, Option, None, arith, refl, sym, ap, subst}
 use Rattle.std.specs.Prelude.{int_lt, int_le, ◌||◌}
-use Rattle.std.specs.Int.{int_min, int_max}
+use Rattle.std.specs.Int.{int_min, int_max, div_ceil}
 use Rattle.std.specs.Int.RustNames.{unsigned_abs}
 use Rattle.std.specs.List.{All, filter_map, cons_option}
-use Rattle.std.proofs.Math.Nat.{div-mul-le_self}
+use Rattle.std.proofs.Math.Nat.{div-mul-le_self, div-le_of_le-mul, mul-le-mul_right}
+use Rattle.std.proofs.lemmas.Grind.{div_ceil_times}
 use Rattle.std.proofs.lemmas.Nat.{le-div}
 use Rattle.std.proofs.lemmas.Int.{ints, clamps}
 use Rattle.std.proofs.lemmas.List.{take_more, take_all, get_or_default}
@@ -131,10 +132,11 @@ shelf_found tris s z within filed false false ea eb =
     filed.found z (lt-false z s.scale.span.low ea) (lt-false s.scale.span.high z eb) ∙ ap (λ ts. section_of ts z) (take_all (length tris) tris all)
 
 -- all triangles are filed, on as many shelves as there have to be
-pub all_filed : (tris : List Tri) (s : Shelves) → 0 < s.scale.step → All (λ t. IsWithin s.scale.span (span_of t)) tris → shelf_of s.scale s.scale.span.high < length s.lists.items
+pub all_filed : (tris : List Tri) (s : Shelves) → 0 < s.scale.step → length s.lists.items ≤ max (length tris) 1 + 1 → All (λ t. IsWithin s.scale.span (span_of t)) tris → shelf_of s.scale s.scale.span.high < length s.lists.items
     → AreFirstFiled tris s.scale s.lists.items (length tris) → AreFiled tris s
-all_filed tris s some within covers filed = record {
+all_filed tris s some few within covers filed = record {
   some = some;
+  few = few;
   within = λ z from to. let m = shelf-mono s.scale z s.scale.span.high some from to in omega (arith, m, covers);
   known = λ z. shelf_known (length tris) (int_lt z s.scale.span.low || int_lt s.scale.span.high z) (get_or s.lists.items (shelf_of s.scale z) []) (filed.known (shelf_of s.scale z));
   found = λ z. shelf_found tris s z within filed (int_lt z s.scale.span.low) (int_lt s.scale.span.high z) refl refl;
@@ -177,3 +179,11 @@ one_empty [] h zero = refl
 one_empty [] h (suc b) = refl
 one_empty (x ∷ xs) h zero = h 0
 one_empty (x ∷ xs) h (suc b) = one_empty xs (λ k. h (suc k)) b
+
+-- a step of so many heights leaves so many shelves
+pub few_shelves : (rise step n : ℕ) → rise ≤ step * n → rise / step ≤ n
+few_shelves rise step n le = div-le_of_le-mul step le
+
+-- a height in so many steps, rounded up
+pub few_steps : (rise n step : ℕ) → 0 < n → div_ceil rise n ≤ step → rise ≤ step * n
+few_steps rise n step some le = let t = (div_ceil_times rise n some).0 in let m = mul-le-mul_right n le in omega (arith, t, m)

@@ -1,5 +1,5 @@
 -- Triangles filed by height. The shelves stand one over another, all of one height; on each lie the numbers of the triangles that reach into its heights.
-use Rattle.std.specs.Prelude.{ℕ, ℤ, pos, ◌≡◌, ◌/◌, ◌<◌, ◌≤ℤ◌, ◌-ℤ◌, int_lt, cond, ◌||◌, List, [], length, slice_index_or, Option}
+use Rattle.std.specs.Prelude.{ℕ, ℤ, pos, ◌≡◌, ◌+◌, ◌/◌, ◌≤◌, max, ◌<◌, ◌≤ℤ◌, ◌-ℤ◌, int_lt, cond, ◌||◌, List, [], length, slice_index_or, Option}
 use Rattle.std.specs.Int.{int_min, int_max}
 use Rattle.std.specs.Int.RustNames.{unsigned_abs}
 use Rattle.std.specs.List.{All, filter_map}
@@ -14,6 +14,10 @@ use Rattle.cross_section.specs.Section.{edge_of, section_of}
 -- the heights from the lowest corner of a triangle to its highest
 abbrev pub span_of : Tri → Span
 span_of t = record { low = int_min (int_min t.a.z t.b.z) t.c.z; high = int_max (int_max t.a.z t.b.z) t.c.z }
+
+-- how high that is
+abbrev pub rise_of : Span → ℕ
+rise_of s = unsigned_abs (s.high -ℤ s.low)
 
 -- some heights lie within others
 pub record IsWithin (outer inner : Span) : Type 0 where
@@ -38,9 +42,10 @@ no_triangle = record { a = no_corner; b = no_corner; c = no_corner }
 abbrev pub edge_at : List Tri → ℤ → ℕ → Option Edge
 edge_at tris z k = edge_of z (slice_index_or tris k no_triangle)
 
--- the triangles on the shelf of each height give the section at that height
+-- the triangles on the shelf of each height give the section at that height; there are at most as many shelves as triangles, and one more
 pub record AreFiled (tris : List Tri) (s : Shelves) : Type 0 where
   pub some : 0 < s.scale.step
+  pub few : length s.lists.items ≤ max (length tris) 1 + 1
   pub within : (z : ℤ) → s.scale.span.low ≤ℤ z → z ≤ℤ s.scale.span.high → shelf_of s.scale z < length s.lists.items
   pub known : (z : ℤ) → All (λ k. k < length tris) (shelf_at s z)
   pub found : (z : ℤ) → filter_map (edge_at tris z) (shelf_at s z) ≡ section_of tris z
