@@ -7,7 +7,8 @@ use settings_core::Scope;
 use slice_base::Text;
 
 /// Why a job wasn't done. Meshes and triangles count from 0, words and lines from 1. The first that
-/// holds, in this order, is the answer; those of a mesh are tested mesh by mesh.
+/// holds, in this order, is the answer. `ReadFault` and `TooLong` share a place, file by file;
+/// `BadValue` and `OutOfRange` share one, pair by pair; those of a mesh are tested mesh by mesh.
 #[derive(Drop)]
 pub enum Refusal {
     /// That word is the first at fault.
@@ -32,13 +33,13 @@ pub enum Refusal {
     UnknownExtruder { mesh: u8 },
     /// That line of the mesh's file is the first at fault.
     BadStl { mesh: u8, line: u32 },
-    /// The mesh has no triangle.
-    NoTriangles { mesh: u8 },
     /// The mesh has that many facets, over 1,000,000.
     TooManyTriangles { mesh: u8, count: u32 },
+    /// The mesh has no triangle.
+    NoTriangles { mesh: u8 },
     /// That triangle is the first with a corner outside the build volume.
     OutsideVolume { mesh: u8, triangle: u32 },
-    /// The meshes are lower than the middle of the first layer.
+    /// No mesh reaches above the middle of the first layer.
     NoLayers,
     /// There are that many layers, over 10,000.
     TooManyLayers { count: u32 },

@@ -103,7 +103,7 @@ abbrev pub is_mesh : Chosen → Bool
 is_mesh (mesh w) = true
 is_mesh c = false
 
--- at most sixteen settings files and sixteen meshes
+-- there are sixteen of these already
 abbrev pub is_full : Taker → ℕ → ℕ → Bool
 is_full Settings files meshes = nat_le 16 files
 is_full Mesh files meshes = nat_le 16 meshes

@@ -70,7 +70,8 @@ fn clip(alloc: Global, operation: Operation, a: &Region, b: &Region) -> Result<R
     }
 }
 
-/// The region where the winding number of this one passes the rule, cut at every meeting point.
+/// The region bounded by the edges on whose two sides the rule of winding numbers differs, after four
+/// passes of cutting.
 pub fn clean(alloc: Global, region: &Region, rule: Rule) -> Result<Region, CutFault>
     ensures answer { MatchResult result (λ cleaned. clipped_of (operation_of rule) region.now [] ≡ Ok cleaned) (λ fault. IsClipFault (clipped_of (operation_of rule) region.now []) fault) }
     ensures few { IfOk result (λ cleaned. points_in cleaned ≤ 150000) }

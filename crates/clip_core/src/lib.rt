@@ -1,6 +1,6 @@
 // Clips regions against each other. What goes in are one or two regions; what comes out is the region
-// at whose points the winding numbers pass a rule, which is `clipped_of` of `specs/Clip.antt`, or the
-// number of edges where there are too many.
+// that is bounded by the cut edges on whose two sides a rule of winding numbers differs, which is
+// `clipped_of` of `specs/Clip.antt`, or the number of edges where there are too many.
 #![tactic(auto)]
 
 mod bundles;

@@ -107,8 +107,8 @@ pub fn tell<Co: Sink>(alloc: Global, topic: Topic, console: &mut Co) -> u8
     say(console, text.as_str())
 }
 
-/// Puts a text on the console. The answer is the program's status.
-pub fn say<Co: Sink>(console: &mut Co, text: &str) -> u8
+// Puts a text on the console. The answer is the program's status.
+fn say<Co: Sink>(console: &mut Co, text: &str) -> u8
     ensures { ((result ≡ 0) × Put (Co.output console.old) text.now (Co.output console.new))
         ⊎ ((result ≡ 7) × PutFront (Co.output console.old) text.now (Co.output console.new)) }
 {

@@ -24,7 +24,7 @@ fn main(rt: HostRuntime) -> ExitCode {
     let mut console = OutSink::of(&rt);
     let words = match words::given(&rt) {
         Ok(words) => words,
-        Err(why) => return ExitCode::from(why.tell(rt.alloc(), &mut console)),
+        Err(refusal) => return ExitCode::from(words::refuse(refusal, &mut console)),
     };
     if let Some(topic) = help::asked(words.as_slice()) {
         return ExitCode::from(help::tell(rt.alloc(), topic, &mut console));

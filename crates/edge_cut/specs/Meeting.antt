@@ -36,7 +36,7 @@ part_on e f = cross_of e.from f.from f.from f.to
 abbrev pub part_across : Edge → Edge → ℤ
 part_across e f = cross_of e.from f.from e.from e.to
 
--- the one point that lies on both of two edges whose directions aren't parallel
+-- where the directions of two edges aren't parallel and they meet, that point, each coordinate rounded; else none
 abbrev pub crossing_of : Edge → Edge → List Pt
 crossing_of e f =
     cond (is_part (part_on e f) (turn_of e f) && is_part (part_across e f) (turn_of e f))

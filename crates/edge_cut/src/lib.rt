@@ -1,5 +1,5 @@
 // Cuts directed edges where they meet. What goes in is a list of edges of two operands; what comes
-// out is the list of their pieces after four rounds of cutting at the rounded meeting points, which is
+// out is the list of their pieces after four passes of cutting at the rounded meeting points, which is
 // `cut_of` of `specs/Cut.antt`, or the number of edges where there are too many.
 #![tactic(auto)]
 

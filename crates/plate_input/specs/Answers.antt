@@ -35,11 +35,12 @@ pub record ReadsFew (items : List Item) (before after : Store) : Type 0 where
   pub at_most : after.reads ≤ before.reads + length (item_names items)
   pub later : before.faults ≤ after.faults
 
--- the answer is what Means holds of, and nothing else is, unless memory ran out
+-- the answer is what Means holds of, and nothing else is
 pub record IsOnly {T : Type 0} (Means : Result T Refusal → Type 0) (answer : Result T Refusal) : Type 0 where
   pub holds : Means answer
   pub only : (a : Result T Refusal) → Means a → a ≡ answer
 
+-- the same, unless memory ran out
 abbrev pub Answers : {T : Type 0} → (Result T Refusal → Type 0) → Result T Refusal → Type 0
 Answers Means answer = (answer ≡ Err refusal.NoMemory) ⊎ IsOnly Means answer
 

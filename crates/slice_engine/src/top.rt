@@ -59,7 +59,7 @@ fn plan_and_write<Sh: Shelf, Si: Sink>(
 /// files in the order of the words, resolves the settings, puts the meshes in place, cuts all layers,
 /// writes the file to the sink, which is handed back, and tells the console in one line how it ended.
 ///
-/// A refusal is the first in the order of `Refusal`. With every refusal but `WriteFault` and
+/// A refusal is the first that holds, in the order that `Refusal` tells. With every refusal but `WriteFault` and
 /// `ConsoleFault` the sink is as before. Of the commands `serial` is built.
 pub fn still_top<Sh: Shelf, Si: Sink, Co: Sink>(
     alloc: Global,
