@@ -161,11 +161,11 @@ gap-before slots g h gap new other =
     )
 
 -- the queue covers all gaps again
-pub covers-again : (slots now : List (List Pt)) (g : Gap) (old new : List Gap) → now ≡ closed g slots → IsGap slots g → Covers (λ h. h.to ≢ g.to) slots old → ((h : Gap) → Contains old h → Contains new h) → Covers (λ h. h.from ≡ g.from) now new → Covers (λ _. ⊤) now new
+pub covers-again : (slots now : List (List Pt)) (g : Gap) (old new : List Gap) → now ≡ closed g slots → IsGap slots g → Covers (λ h. h.to ≢ g.to) slots old → ((h : Gap) → IsGap now h → Contains old h → Contains new h) → Covers (λ h. h.from ≡ g.from) now new → Covers (λ _. ⊤) now new
 covers-again slots now g old new is gap covers kept row h new_gap t = by_test (h.from == g.from) refl
   where
     by_test : (b : Bool) → (h.from == g.from) ≡ b → Contains new h
     by_test true e = row h new_gap (same_if h.from g.from e)
     by_test false e =
         let before = gap-before slots g h gap (subst (λ (cs : List (List Pt)). IsGap cs h) is new_gap) (apart_if h.from g.from e) in
-        kept h (covers h before.0 before.1)
+        kept h new_gap (covers h before.0 before.1)

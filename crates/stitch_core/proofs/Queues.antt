@@ -54,6 +54,12 @@ added-covers slots x from to old new is e f moved g gap at =
 pub row-none : (slots : List (List Pt)) (from : ℕ) (gaps : List Gap) → Covers (λ g. (g.from ≡ from) × (g.to < 0)) slots gaps
 row-none slots from gaps g gap at = let below = at.1 in let e : ⊥ = omega arith in absurd e
 
+pub row-gone : (slots : List (List Pt)) (from : ℕ) (gaps : List Gap) → length (get_or slots from []) ≡ 0 → Covers (λ g. g.from ≡ from) slots gaps
+row-gone slots from gaps none g gap at =
+    let some : 0 < length (get_or slots from []) = subst (λ (i : ℕ). 0 < length (get_or slots i [])) at gap.ends in
+    let e : ⊥ = omega arith in
+    absurd e
+
 pub row-whole : (slots : List (List Pt)) (from to : ℕ) (gaps : List Gap) → length slots ≤ to → Covers (λ g. (g.from ≡ from) × (g.to < to)) slots gaps → Covers (λ g. g.from ≡ from) slots gaps
 row-whole slots from to gaps past covers g gap at = let l = within_slots slots g.to gap.starts in covers g gap (at, omega arith)
 

@@ -40,6 +40,15 @@ fn distance(p: Pt, q: Pt) -> u128
     square_of(step(p.x, q.x)) + square_of(step(p.y, q.y))
 }
 
+pub(crate) fn is_gone(slots: &[Loop], at: u32) -> bool
+    ensures { result ≡ true → length (slice_index_or slots.now at []) ≡ 0 }
+{
+    match slots.get(at as usize) {
+        Some(slot) => slot.points().is_empty(),
+        None => true,
+    }
+}
+
 // The gap from the end of the chain in slot `from` to the start of that in slot `to`, if it is within reach.
 pub(crate) fn gap_between(slots: &[Loop], from: u32, to: u32) -> Option<Gap>
     ensures { MatchOption result (HasNoGap slots.now from to) (λ g. IsGap slots.now g × (g.from ≡ from) × (g.to ≡ to)) }
