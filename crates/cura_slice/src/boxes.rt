@@ -1,5 +1,7 @@
 // Boxes as ASCII STL.
 
+ghost use Rattle.std.specs.Prelude.{◌<◌};
+
 use std::alloc::{AllocError, Global};
 
 // A box, by its least and greatest corner in mm, each number as it stands in the file.
@@ -27,7 +29,9 @@ const FACETS: [[u8; 3]; 12] = [
 ];
 
 impl Block<'_> {
-    fn coordinate(&self, corner: u8, axis: usize) -> &str {
+    fn coordinate(&self, corner: u8, axis: usize) -> &str
+        requires { axis < 3 }
+    {
         if (corner >> axis) & 1 == 1 {
             self.high[axis]
         } else {

@@ -11,7 +11,6 @@ use Rattle.cli_words.specs.declared.command.Item.TheVariants as item
 use Rattle.cli_words.specs.Command.{item_names, item_extruders}
 use Rattle.answers.specs.declared.refusal.Refusal.{Refusal}
 use Rattle.answers.specs.declared.refusal.Refusal.TheVariants as refusal
-use Rattle.plate_input.specs.declared.files.TheConstants.{MOST_BYTES}
 use Rattle.plate_input.specs.declared.gathered.Gathered.{Gathered}
 use Rattle.plate_input.specs.Reading.{AreFiles, FirstTooLong, pairs_of, mesh_bytes}
 use Rattle.plate_input.specs.Answers.{FailedRead}
@@ -25,7 +24,7 @@ pub record ReadOnce (before after : Store) : Type 0 where
 -- the bytes are those of the file of this name, and not too many
 pub record IsRead (name : List ℕ) (before : Store) (bytes : List ℕ) : Type 0 where
   pub file : IsFile before.files name bytes
-  pub short : length bytes ≤ MOST_BYTES
+  pub short : length bytes ≤ 268435456
 
 -- the read of this file failed
 pub record FailedOnce (name : List ℕ) (before after : Store) : Type 0 where
@@ -35,7 +34,7 @@ pub record FailedOnce (name : List ℕ) (before after : Store) : Type 0 where
 -- why a file wasn't read
 abbrev pub FileRefusal : Refusal → List ℕ → Store → Store → Type 0
 FileRefusal (refusal.ReadFault n) name before after = (n ≡ name) × FailedOnce name before after
-FileRefusal (refusal.TooLong n) name before after = (n ≡ name) × IsTooLong before.files name MOST_BYTES
+FileRefusal (refusal.TooLong n) name before after = (n ≡ name) × IsTooLong before.files name 268435456
 FileRefusal refusal.NoMemory name before after = Unit {0}
 FileRefusal r name before after = ⊥
 
@@ -97,7 +96,7 @@ pub record HasGathered (items : List Item) (files : Option (List (List ℕ × Li
   pub meshes : g.meshes ≡ mesh_bytes items contents
   pub extruders : g.extruders ≡ item_extruders items
   pub as_many : length g.meshes ≡ length g.extruders
-  pub short : All (λ bytes. length bytes ≤ MOST_BYTES) g.meshes
+  pub short : All (λ bytes. length bytes ≤ 268435456) g.meshes
 
 -- why not all files were read
 abbrev pub GatherRefusal : Refusal → List Item → Store → Store → Type 0

@@ -2,7 +2,6 @@
 use Rattle.std.specs.Prelude.{ℕ, ◌≡◌, ◌+◌, ◌<◌, ◌≤◌, List, [], ◌∷◌, length, ◌⊎◌, Some, None, Result, Ok, Err}
 use Rattle.slice_base.specs.declared.points.Tri.{Tri}
 use Rattle.settings_core.specs.declared.resolved.Settings.{Settings}
-use Rattle.stl_text.specs.declared.gathered.TheConstants.{MOST_TRIANGLES}
 use Rattle.stl_text.specs.Mesh.{IsMesh, IsFault, HasTooMany}
 use Rattle.cross_section.specs.Place.{placed, first_outside}
 use Rattle.answers.specs.declared.refusal.Refusal.{Refusal}
@@ -60,4 +59,4 @@ MeshesGive s m (bytes ∷ files) (Err r) = MeshRefusal s m bytes r ⊎ (((tris :
 pub record LiesInside (s : Settings) (tris : List Tri) : Type 0 where
   pub some : 0 < length tris
   pub inside : first_outside s tris ≡ None
-  pub few : length tris ≤ MOST_TRIANGLES
+  pub few : length tris ≤ 1000000

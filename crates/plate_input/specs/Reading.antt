@@ -6,14 +6,13 @@ use Rattle.outside.specs.Files.{IsFile, IsTooLong}
 use Rattle.cli_words.specs.declared.command.Item.{Item}
 use Rattle.cli_words.specs.declared.command.Item.TheVariants as item
 use Rattle.cli_words.specs.Command.{item_names}
-use Rattle.plate_input.specs.declared.files.TheConstants.{MOST_BYTES}
 
 -- these are the contents of the files of these names, in order, and none is too long
 abbrev pub AreFiles : Option (List (List ℕ × List ℕ)) → List (List ℕ) → List (List ℕ) → Type 0
 AreFiles files [] [] = Unit {0}
 AreFiles files [] (bytes ∷ contents) = ⊥
 AreFiles files (name ∷ names) [] = ⊥
-AreFiles files (name ∷ names) (bytes ∷ contents) = IsFile files name bytes × (length bytes ≤ MOST_BYTES) × AreFiles files names contents
+AreFiles files (name ∷ names) (bytes ∷ contents) = IsFile files name bytes × (length bytes ≤ 268435456) × AreFiles files names contents
 
 -- the first file at fault, of those that the items name, is too long
 pub record FirstTooLong (items : List Item) (files : Option (List (List ℕ × List ℕ))) (name : List ℕ) : Type 0 where
@@ -22,7 +21,7 @@ pub record FirstTooLong (items : List Item) (files : Option (List (List ℕ × L
   pub contents : List (List ℕ)
   pub names : item_names items ≡ front ++ name ∷ rest
   pub are : AreFiles files front contents
-  pub too_long : IsTooLong files name MOST_BYTES
+  pub too_long : IsTooLong files name 268435456
 
 -- pairs, and then others
 abbrev pub in_front : List Pair → Result (List Pair) (List ℕ) → Result (List Pair) (List ℕ)

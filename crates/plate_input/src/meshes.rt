@@ -18,7 +18,7 @@ use stl_text::{MOST_TRIANGLES, StlFault, read_stl};
 fn read_triangles(alloc: Global, bytes: &[u8], mesh: u8) -> Result<Items<Tri>, Refusal>
     requires { length bytes.now ≤ MOST_BYTES }
     ensures gives { Answers (TrianglesGive mesh bytes.now) result }
-    ensures few { IfOk result (λ tris. length tris ≤ MOST_TRIANGLES) }
+    ensures few { IfOk result (λ tris. length tris ≤ 1000000) }
 {
     match read_stl(alloc, bytes) {
         Ok(read) => {

@@ -2,7 +2,6 @@
 use Rattle.std.specs.Prelude.{◌≡◌, ◌≤◌, ◌<◌, false, List, length, Vec, Result, Ok, Err}
 use Rattle.std.specs.declared.alloc.Global.{Global}
 use Rattle.slice_base.specs.declared.points.Tri.{Tri}
-use Rattle.stl_text.specs.declared.gathered.TheConstants.{MOST_TRIANGLES}
 use Rattle.stl_text.specs.declared.faults.StlFault.{StlFault}
 use Rattle.stl_text.specs.declared.faults.StlFault.TheVariants.{BadLine, TooManyTriangles, NoMemory}
 use Rattle.stl_text.specs.declared.gathered.Gathered.{Gathered}
@@ -11,11 +10,11 @@ use Rattle.stl_text.specs.Mesh.{triangles_of}
 -- the number of these facets, and their triangles unless memory ran out or they are too many
 pub record Gathers (facets : List Tri) (g : Gathered) : Type 0 where
   pub count : g.facets ≡ length facets
-  pub kept : g.is_short ≡ false → g.facets ≤ MOST_TRIANGLES → g.triangles.items ≡ triangles_of facets
+  pub kept : g.is_short ≡ false → g.facets ≤ 1000000 → g.triangles.items ≡ triangles_of facets
 
 -- the answer to a whole text with these facets
 abbrev pub IsAnswer : List Tri → Result (Vec Tri Global) StlFault → Type 0
-IsAnswer facets (Ok v) = (length facets ≤ MOST_TRIANGLES) × (v.items ≡ triangles_of facets)
+IsAnswer facets (Ok v) = (length facets ≤ 1000000) × (v.items ≡ triangles_of facets)
 IsAnswer facets (Err (BadLine n)) = ⊥
-IsAnswer facets (Err (TooManyTriangles n)) = (length facets ≡ n) × (MOST_TRIANGLES < n)
-IsAnswer facets (Err NoMemory) = length facets ≤ MOST_TRIANGLES
+IsAnswer facets (Err (TooManyTriangles n)) = (length facets ≡ n) × (1000000 < n)
+IsAnswer facets (Err NoMemory) = length facets ≤ 1000000

@@ -2,7 +2,6 @@
 use Rattle.std.specs.Prelude.{ℕ, ℤ, Bool, true, false, List, [], ◌∷◌, map, Option, Some, None, codes, nat_le, unsigned_abs, if◌then◌else◌}
 use Rattle.slice_base.specs.declared.points.Pt3.{Pt3}
 use Rattle.slice_base.specs.Decimal.{decimal_of}
-use Rattle.stl_text.specs.declared.lines.TheConstants.{MOST_COORDINATE}
 use Rattle.stl_text.specs.declared.lines.Line.{Line}
 use Rattle.stl_text.specs.declared.lines.Line.TheVariants.{Blank, Solid, Facet, OuterLoop, Vertex, EndLoop, EndFacet, EndSolid, Other}
 use Rattle.stl_text.specs.Words.{lines_of, words_of, is_keyword}
@@ -10,7 +9,7 @@ use Rattle.stl_text.specs.Words.{lines_of, words_of, is_keyword}
 -- a number of µm that lies in the range of coordinates
 abbrev pub in_range : Option ℤ → Option ℤ
 in_range None = None
-in_range (Some v) = if nat_le (unsigned_abs v) MOST_COORDINATE then Some v else None
+in_range (Some v) = if nat_le (unsigned_abs v) 1000000000 then Some v else None
 
 -- a decimal in mm, as whole µm
 abbrev pub coordinate_of : List ℕ → Option ℤ

@@ -3,8 +3,6 @@ use Rattle.std.specs.Prelude.{ℕ, ◌+◌, ◌≡◌, ◌<◌, ◌≤◌, Bool,
 use Rattle.std.specs.Ordering.{int_eq}
 use Rattle.slice_base.specs.declared.points.Pt3.{Pt3}
 use Rattle.slice_base.specs.declared.points.Tri.{Tri}
-use Rattle.stl_text.specs.declared.lines.TheConstants.{MOST_COORDINATE}
-use Rattle.stl_text.specs.declared.gathered.TheConstants.{MOST_TRIANGLES}
 use Rattle.stl_text.specs.declared.lines.Line.{Line}
 use Rattle.stl_text.specs.declared.lines.Line.TheVariants.{Blank, Solid, Facet, OuterLoop, Vertex, EndLoop, EndFacet, EndSolid}
 use Rattle.stl_text.specs.Lines.{read_lines}
@@ -58,7 +56,7 @@ triangles_of facets = filter is_proper facets
 pub record IsMesh (bytes : List ℕ) (triangles : List Tri) : Type 0 where
   pub facets : List Tri
   pub whole : HasFacets bytes facets
-  pub few : length facets ≤ MOST_TRIANGLES
+  pub few : length facets ≤ 1000000
   pub proper : triangles ≡ triangles_of facets
 
 -- the bytes are a whole text with this number of facets, which is too many
@@ -66,13 +64,13 @@ pub record HasTooMany (bytes : List ℕ) (count : ℕ) : Type 0 where
   pub facets : List Tri
   pub whole : HasFacets bytes facets
   pub counted : length facets ≡ count
-  pub many : MOST_TRIANGLES < count
+  pub many : 1000000 < count
 
 -- a corner in the range of coordinates
 pub record IsNearCorner (p : Pt3) : Type 0 where
-  pub x : unsigned_abs p.x ≤ MOST_COORDINATE
-  pub y : unsigned_abs p.y ≤ MOST_COORDINATE
-  pub z : unsigned_abs p.z ≤ MOST_COORDINATE
+  pub x : unsigned_abs p.x ≤ 1000000000
+  pub y : unsigned_abs p.y ≤ 1000000000
+  pub z : unsigned_abs p.z ≤ 1000000000
 
 -- a triangle in the range of coordinates
 pub record IsNear (t : Tri) : Type 0 where
