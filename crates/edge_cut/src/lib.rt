@@ -12,7 +12,9 @@ mod stops;
 
 pub use crossings::{Met, meeting};
 pub use cutting::{CutFault, cut};
-pub use laws::{is_cut_alike, is_cut_exchanged, stays_cut};
+pub use laws::{
+    is_cut_alike, is_cut_exchanged, own_edge_adds_no_stop, stays_cut, stops_are_ordered,
+};
 pub use passes::Marked;
 pub use plane::{cross, dot, is_same};
 
