@@ -4,3 +4,4 @@ pub mod Sizes
 pub mod Reach
 pub mod Answered
 pub mod Exchanged
+pub mod Areas

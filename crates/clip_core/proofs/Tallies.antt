@@ -1,5 +1,5 @@
 -- A tally, edge by edge.
-use Rattle.std.proofs.Common.{◌≡◌, ℕ, ◌<◌, ◌+◌, Bool, false, cond, List, length, get_or, drop, ℤ, pos, ◌+ℤ◌, ◌∙◌, sym, ap, add-one, drop-cons}
+use Rattle.std.proofs.Common.{◌≡◌, ℕ, ◌<◌, ◌+◌, Bool, false, cond, List, length, get_or, drop, ℤ, pos, ◌∙◌, sym, ap, add-one, drop-cons}
 use Rattle.std.proofs.Math.IntN.{+ℤ_assoc, +ℤ_idl}
 use Rattle.edge_cut.specs.declared.passes.Marked.{Marked}
 use Rattle.clip_core.specs.declared.windings.Windings.{Windings}

@@ -1,7 +1,6 @@
 -- The edges of loops and regions.
 use Rattle.std.specs.Prelude.{Bool, true, false, List, [], ◌∷◌, ◌++◌}
 use Rattle.slice_base.specs.declared.points.Pt.{Pt}
-use Rattle.slice_base.specs.declared.points.Edge.{Edge}
 use Rattle.edge_cut.specs.declared.passes.Marked.{Marked}
 
 -- the edges of a loop from p on, round to its first point

@@ -1,22 +1,24 @@
 -- The clean-up of linked chains.
-use Rattle.std.specs.Prelude.{ℕ, ℤ, pos, Bool, cond, ◌&&◌, int_lt, nat_le, ◌+ℤ◌, ◌-ℤ◌, ◌*ℤ◌, List, [], ◌∷◌, ◌++◌, length, slice_index_or}
+use Rattle.std.specs.Prelude.{ℤ, pos, Bool, false, cond, ◌&&◌, int_lt, nat_le, ◌+ℤ◌, ◌-ℤ◌, ◌*ℤ◌, List, [], ◌∷◌, ◌++◌, length, slice_index_or}
 use Rattle.std.specs.Ordering.{int_eq}
 use Rattle.slice_base.specs.declared.points.Pt.{Pt}
+use Rattle.edge_cut.specs.declared.passes.Marked.{Marked}
 use Rattle.slice_base.specs.Plane.{cross_of, dot_of}
 use Rattle.chain_core.specs.declared.chains.Chains.{Chains}
+use Rattle.clip_core.specs.Outlines.{loop_edges}
 
--- twice the area of the triangle from the origin to p and q, above 0 where it turns left
+-- the cross product of p and q: twice the area of the triangle from the origin to p and q, above 0 where it turns left
 abbrev pub wedge : Pt → Pt → ℤ
 wedge p q = (p.x *ℤ q.y) -ℤ (p.y *ℤ q.x)
 
--- twice the area at the left of a loop from p on, added to what there is
-abbrev pub area_from : ℤ → Pt → Pt → List Pt → ℤ
-area_from sum first p [] = sum +ℤ wedge p first
-area_from sum first p (q ∷ qs) = area_from (sum +ℤ wedge p q) first q qs
+-- the sum of the cross products of the two ends of each edge
+abbrev pub sum_of_wedges : List Marked → ℤ
+sum_of_wedges [] = pos 0
+sum_of_wedges (m ∷ ms) = wedge m.edge.from m.edge.to +ℤ sum_of_wedges ms
 
+-- twice the area at the left of a loop: that sum over its edges, each from a point to the next, round to the first
 abbrev pub area_of : List Pt → ℤ
-area_of [] = pos 0
-area_of (p ∷ ps) = area_from (pos 0) p p ps
+area_of points = sum_of_wedges (loop_edges false points)
 
 -- the way from a to p and that from p to c have one direction
 abbrev pub is_straight : Pt → Pt → Pt → Bool
