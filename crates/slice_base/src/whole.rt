@@ -16,7 +16,7 @@ fn round_div_nat(n: u128, d: u128) -> u128
     if r >= d - r { q + 1 } else { q }
 }
 
-/// The quotient, rounded to nearest, half away from zero.
+/// The quotient of whole numbers, rounded to nearest, half away from zero; `d` is above 0.
 pub fn round_div(n: i128, d: i128) -> i128
     requires positive { pos 0 <ℤ d }
     requires small { unsigned_abs n < 2 ^ 126 }
@@ -65,7 +65,7 @@ fn floor_root(n: u128) -> u64
     n.isqrt() as u64
 }
 
-/// The square root, rounded to nearest.
+/// The square root of a whole number, rounded to nearest.
 pub fn isqrt(n: u128) -> u64
     requires { n < 2 ^ 126 }
     ensures near { IsRoot n result }
