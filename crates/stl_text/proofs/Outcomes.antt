@@ -8,7 +8,7 @@ use Rattle.stl_text.specs.declared.gathered.TheConstants.{MOST_TRIANGLES}
 use Rattle.stl_text.specs.declared.faults.StlFault.{StlFault}
 use Rattle.stl_text.specs.declared.faults.StlFault.TheVariants.{BadLine, TooManyTriangles, NoMemory}
 use Rattle.stl_text.specs.Lines.{read_lines}
-use Rattle.stl_text.specs.Mesh.{HasFacets, IsFault, IsMesh, HasTooMany, IsNear, triangles_of, is_proper}
+use Rattle.stl_text.specs.Mesh.{HasFacets, IsFault, IsMesh, HasTooMany, StlGives, IsNear, triangles_of, is_proper}
 use Rattle.stl_text.specs.Gathers.{IsAnswer}
 use Rattle.stl_text.proofs.Runs.{one_text}
 use Rattle.stl_text.proofs.FaultLemmas.{no_fault, one_fault}
@@ -20,8 +20,30 @@ Answer = Result (Vec Tri Global) StlFault
 pub one_reading : (bytes : List ℕ) (fs gs : List Tri) → HasFacets bytes fs → HasFacets bytes gs → fs ≡ gs
 one_reading bytes fs gs f g = one_text (read_lines bytes) fs gs f g
 
-pub no_reading : (bytes : List ℕ) (n : ℕ) (fs : List Tri) → IsFault bytes n → HasFacets bytes fs → ⊥
-no_reading bytes n fs fault f = no_fault bytes fs n f fault
+same_mesh : (bytes : List ℕ) (ts us : List Tri) → IsMesh bytes ts → IsMesh bytes us → ts ≡ us
+same_mesh bytes ts us m n = m.proper ∙ (ap triangles_of (one_reading bytes m.facets n.facets m.whole n.whole) ∙ sym n.proper)
+
+same_count : (bytes : List ℕ) (j k : ℕ) → HasTooMany bytes j → HasTooMany bytes k → j ≡ k
+same_count bytes j k m n = sym m.counted ∙ (ap length (one_reading bytes m.facets n.facets m.whole n.whole) ∙ n.counted)
+
+no_mesh : (bytes : List ℕ) (k : ℕ) (ts : List Tri) → HasTooMany bytes k → IsMesh bytes ts → ⊥
+no_mesh bytes k ts m n = omega (arith, ap length (one_reading bytes m.facets n.facets m.whole n.whole), m.counted, m.many, n.few)
+
+-- any bytes give one thing at most
+pub one_meaning : (bytes : List ℕ) (a b : Result (List Tri) StlFault) → StlGives bytes a → StlGives bytes b → a ≡ b
+one_meaning bytes (Ok ts) (Ok us) m n = ap Ok (same_mesh bytes ts us m n)
+one_meaning bytes (Ok ts) (Err (BadLine k)) m n = absurd (no_fault bytes m.facets k m.whole n)
+one_meaning bytes (Ok ts) (Err (TooManyTriangles k)) m n = absurd (no_mesh bytes k ts n m)
+one_meaning bytes (Ok ts) (Err NoMemory) m n = absurd n
+one_meaning bytes (Err (BadLine j)) (Ok us) m n = absurd (no_fault bytes n.facets j n.whole m)
+one_meaning bytes (Err (BadLine j)) (Err (BadLine k)) m n = ap (λ (x : ℕ). Err (BadLine x)) (one_fault bytes j k m n)
+one_meaning bytes (Err (BadLine j)) (Err (TooManyTriangles k)) m n = absurd (no_fault bytes n.facets j n.whole m)
+one_meaning bytes (Err (BadLine j)) (Err NoMemory) m n = absurd n
+one_meaning bytes (Err (TooManyTriangles j)) (Ok us) m n = absurd (no_mesh bytes j us m n)
+one_meaning bytes (Err (TooManyTriangles j)) (Err (BadLine k)) m n = absurd (no_fault bytes m.facets k m.whole n)
+one_meaning bytes (Err (TooManyTriangles j)) (Err (TooManyTriangles k)) m n = ap (λ (x : ℕ). Err (TooManyTriangles x)) (same_count bytes j k m n)
+one_meaning bytes (Err (TooManyTriangles j)) (Err NoMemory) m n = absurd n
+one_meaning bytes (Err NoMemory) b m n = absurd m
 
 -- the answer at a line at fault
 module _ (bytes : List ℕ) (line : ℕ) (fault : IsFault bytes line) where

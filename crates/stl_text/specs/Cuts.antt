@@ -3,11 +3,14 @@ use Rattle.std.specs.Prelude.{ℕ, ◌==◌, not, List}
 use Rattle.std.specs.List.{prefix_len}
 use Rattle.stl_text.specs.Words.{is_blank}
 
+-- how many bytes stand in front of the first line feed
 abbrev pub line_len : List ℕ → ℕ
 line_len bytes = prefix_len (λ b. not (b == 10)) bytes
 
+-- how many blanks stand at the front
 abbrev pub blank_len : List ℕ → ℕ
 blank_len bytes = prefix_len is_blank bytes
 
+-- how many bytes that aren't blank stand at the front
 abbrev pub word_len : List ℕ → ℕ
 word_len bytes = prefix_len (λ b. not (is_blank b)) bytes

@@ -15,6 +15,7 @@ in_range (Some v) = if nat_le (unsigned_abs v) 1000000000 then Some v else None
 abbrev pub coordinate_of : List ℕ → Option ℤ
 coordinate_of word = in_range (decimal_of word 3)
 
+-- a corner, where there are all three coordinates
 abbrev pub corner_at : Option ℤ → Option ℤ → Option ℤ → Option Pt3
 corner_at (Some x) (Some y) (Some z) = Some (record { x = x; y = y; z = z })
 corner_at x y z = None
@@ -24,6 +25,7 @@ abbrev pub corner_of : List (List ℕ) → Option Pt3
 corner_of (x ∷ y ∷ z ∷ []) = corner_at (coordinate_of x) (coordinate_of y) (coordinate_of z)
 corner_of words = None
 
+-- the line of a vertex, where it has a corner
 abbrev pub vertex_of : Option Pt3 → Line
 vertex_of None = Other
 vertex_of (Some corner) = Vertex corner
@@ -33,6 +35,7 @@ abbrev pub is_loop : List (List ℕ) → Bool
 is_loop (word ∷ []) = is_keyword word (codes "loop")
 is_loop words = false
 
+-- no word follows
 abbrev pub no_words : List (List ℕ) → Bool
 no_words [] = true
 no_words (word ∷ words) = false

@@ -1,8 +1,10 @@
 -- ASCII STL as a grammar of whole texts, and what a text means.
-use Rattle.std.specs.Prelude.{ℕ, ◌+◌, ◌≡◌, ◌<◌, ◌≤◌, Bool, true, false, not, ◌&&◌, List, [], ◌∷◌, ◌++◌, length, take, filter, unsigned_abs}
+use Rattle.std.specs.Prelude.{ℕ, ◌+◌, ◌≡◌, ◌<◌, ◌≤◌, Bool, true, false, not, ◌&&◌, List, [], ◌∷◌, ◌++◌, length, take, filter, unsigned_abs, Result, Ok, Err}
 use Rattle.std.specs.Ordering.{int_eq}
 use Rattle.slice_base.specs.declared.points.Pt3.{Pt3}
 use Rattle.slice_base.specs.declared.points.Tri.{Tri}
+use Rattle.stl_text.specs.declared.faults.StlFault.{StlFault}
+use Rattle.stl_text.specs.declared.faults.StlFault.TheVariants.{BadLine, TooManyTriangles, NoMemory}
 use Rattle.stl_text.specs.declared.lines.Line.{Line}
 use Rattle.stl_text.specs.declared.lines.Line.TheVariants.{Blank, Solid, Facet, OuterLoop, Vertex, EndLoop, EndFacet, EndSolid}
 use Rattle.stl_text.specs.Lines.{read_lines}
@@ -16,6 +18,7 @@ pub data Solids : Bool → List Line → List Tri → Type 0 where
       → Solids true (Facet ∷ OuterLoop ∷ Vertex a ∷ Vertex b ∷ Vertex c ∷ EndLoop ∷ EndFacet ∷ lines) (record { a = a; b = b; c = c } ∷ facets)
   endsolid : {lines : List Line} {facets : List Tri} → Solids false lines facets → Solids true (EndSolid ∷ lines) facets
 
+-- the line isn't blank
 abbrev pub has_words : Line → Bool
 has_words Blank = false
 has_words line = true
@@ -41,6 +44,7 @@ pub record IsFault (bytes : List ℕ) (n : ℕ) : Type 0 where
   pub here : n ≤ length (read_lines bytes) → ¬ (Begins (take n (read_lines bytes)))
   pub end : length (read_lines bytes) < n → (n ≡ length (read_lines bytes) + 1) × ((facets : List Tri) → ¬ (HasFacets bytes facets))
 
+-- two corners are one point
 abbrev pub same_corner : Pt3 → Pt3 → Bool
 same_corner p q = int_eq p.x q.x && int_eq p.y q.y && int_eq p.z q.z
 
@@ -65,6 +69,13 @@ pub record HasTooMany (bytes : List ℕ) (count : ℕ) : Type 0 where
   pub whole : HasFacets bytes facets
   pub counted : length facets ≡ count
   pub many : 1000000 < count
+
+-- what the bytes give: a mesh, or why they give none; want of memory isn't defined
+abbrev pub StlGives : List ℕ → Result (List Tri) StlFault → Type 0
+StlGives bytes (Ok triangles) = IsMesh bytes triangles
+StlGives bytes (Err (BadLine n)) = IsFault bytes n
+StlGives bytes (Err (TooManyTriangles n)) = HasTooMany bytes n
+StlGives bytes (Err NoMemory) = ⊥
 
 -- a corner in the range of coordinates
 pub record IsNearCorner (p : Pt3) : Type 0 where

@@ -7,6 +7,7 @@ use Rattle.stl_text.specs.declared.places.Place.TheVariants.{Outside, InSolid, L
 use Rattle.stl_text.specs.declared.places.Step.{Step}
 use Rattle.stl_text.specs.declared.places.Step.TheVariants.{To, Whole, Bad}
 
+-- where a line leads from a place
 abbrev pub step_of : Place → Line → Step
 step_of place Blank = To place
 step_of Outside Solid = To InSolid
@@ -20,6 +21,7 @@ step_of (LoopEnds t) EndLoop = To (FacetEnds t)
 step_of (FacetEnds t) EndFacet = Whole t
 step_of place line = Bad
 
+-- a text may end at this place
 abbrev pub is_end : Place → Bool
 is_end Outside = true
 is_end InSolid = true

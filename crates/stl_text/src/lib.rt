@@ -4,6 +4,7 @@
 
 mod faults;
 mod gathered;
+mod laws;
 mod lines;
 mod places;
 mod reader;
@@ -13,5 +14,6 @@ mod words;
 
 pub use faults::StlFault;
 pub use gathered::MOST_TRIANGLES;
+pub use laws::one_reading;
 pub use lines::MOST_COORDINATE;
 pub use reader::read_stl;

@@ -75,10 +75,6 @@ pub fn read_stl(alloc: Global, bytes: &[u8]) -> Result<Vec<Tri>, StlFault>
     ensures too_many { (n : ℕ) → (result ≡ Err (StlFault.TooManyTriangles n)) ↔ HasTooMany bytes.now n }
     ensures no_memory { result ≡ Err StlFault.NoMemory → (triangles : List Tri) × IsMesh bytes.now triangles }
 
-    // A text has one reading at most, and none where a line is at fault.
-    ensures one_reading { (fs gs : List Tri) → HasFacets bytes.now fs → HasFacets bytes.now gs → fs ≡ gs }
-    ensures no_reading { (n : ℕ) (fs : List Tri) → IsFault bytes.now n → ¬ (HasFacets bytes.now fs) }
-
     ensures near { IfOk result (λ v. All IsNear v.items) }
     ensures few { IfOk result (λ v. length v.items ≤ 1000000) }
 {

@@ -1,5 +1,5 @@
 use Rattle.std.proofs.Common.{refl}
-use Rattle.stl_text.proofs.Outcomes.{one_reading, no_reading, bad-bad_line, bad-too_many, bad-gives, whole-mesh, whole-gives, whole-bad_line, whole-too_many, whole-no_memory, whole-near, whole-few}
+use Rattle.stl_text.proofs.Outcomes.{bad-bad_line, bad-too_many, bad-gives, whole-mesh, whole-gives, whole-bad_line, whole-too_many, whole-no_memory, whole-near, whole-few}
 use Rattle.stl_text.proofs.reader.read_stl.Goals as goal
 
 pub returns-in-Err-clause-bad_line : goal.returns-in-Err-clause-bad_line
@@ -7,12 +7,6 @@ returns-in-Err-clause-bad_line c = bad-bad_line c.args.bytes.now c.in-Err.line c
 
 pub returns-in-Err-clause-too_many : goal.returns-in-Err-clause-too_many
 returns-in-Err-clause-too_many c = bad-too_many c.args.bytes.now c.in-Err.line c.in-Err.ensures.err _ refl
-
-pub returns-in-Err-clause-one_reading : goal.returns-in-Err-clause-one_reading
-returns-in-Err-clause-one_reading c = one_reading c.args.bytes.now
-
-pub returns-in-Err-clause-no_reading : goal.returns-in-Err-clause-no_reading
-returns-in-Err-clause-no_reading c = no_reading c.args.bytes.now
 
 pub returns-in-Ok-clause-mesh : goal.returns-in-Ok-clause-mesh
 returns-in-Ok-clause-mesh c = let h = c.in-Ok.ensures.ok in whole-mesh c.args.bytes.now h.0 h.1 c.finish.result (c.finish.ensures h.0 h.2)
@@ -25,12 +19,6 @@ returns-in-Ok-clause-too_many c = let h = c.in-Ok.ensures.ok in whole-too_many c
 
 pub returns-in-Ok-clause-no_memory : goal.returns-in-Ok-clause-no_memory
 returns-in-Ok-clause-no_memory c = let h = c.in-Ok.ensures.ok in whole-no_memory c.args.bytes.now h.0 h.1 c.finish.result (c.finish.ensures h.0 h.2)
-
-pub returns-in-Ok-clause-one_reading : goal.returns-in-Ok-clause-one_reading
-returns-in-Ok-clause-one_reading c = one_reading c.args.bytes.now
-
-pub returns-in-Ok-clause-no_reading : goal.returns-in-Ok-clause-no_reading
-returns-in-Ok-clause-no_reading c = no_reading c.args.bytes.now
 
 pub returns-in-Ok-clause-near : goal.returns-in-Ok-clause-near
 returns-in-Ok-clause-near c = let h = c.in-Ok.ensures.ok in whole-near c.args.bytes.now h.0 h.1 c.finish.result (c.finish.ensures h.0 h.2)
