@@ -81,6 +81,7 @@ impl<'a, R: Files> DirShelf<'a, R> {
 
     fn fail(&mut self, name: Text) -> ReadNo
         ensures failed { result ≡ ReadNo.Failed }
+        ensures counted { self.new.faults ≡ counted self.old.faults }
         ensures later { self.old.faults ≤ self.new.faults }
         ensures rose { Rose self.old.faults self.new.faults }
         ensures named { self.new.last_failed ≡ Some name }

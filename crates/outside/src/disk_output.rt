@@ -59,6 +59,7 @@ impl<'a, R: Files + AllocGlobal> FileSink<'a, R> {
 
     // Counts a fault, after which the file takes no more.
     fn fail(&mut self) -> Failed
+        ensures counted { self.new.faults ≡ counted self.old.faults }
         ensures later { self.old.faults ≤ self.new.faults }
         ensures rose { Rose self.old.faults self.new.faults }
         ensures name { self.new.name ≡ self.old.name }

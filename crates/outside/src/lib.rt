@@ -18,5 +18,5 @@ pub use disk_output::FileSink;
 pub use mem_files::MemShelf;
 pub use mem_output::MemSink;
 pub use shelves::{ReadNo, Shelf};
-pub use sinks::{Sink, put_all};
+pub use sinks::{Sink, put_all, puts_add_up};
 pub use std_output::OutSink;

@@ -3,6 +3,7 @@
 ghost use Rattle.std.specs.Prelude.{◌≡◌, ◌≤◌, length, IfOk, IsErrOf};
 ghost use Rattle.slice_base.specs.Causes.{Rose, counted};
 ghost use Rattle.outside.specs.declared.shelves.ReadNo.TheVariants.{NoMemory};
+ghost use Rattle.outside.specs.Faults.{faults_after_read};
 ghost use Rattle.outside.specs.Files.{IsFile, IsTooLong, last_failed_of};
 ghost use Rattle.outside.specs.Store.{Store};
 
@@ -54,6 +55,7 @@ pub trait Shelf {
         ensures given { IfOk result (λ bytes. IsFile (store self.old).files name.now bytes.items) }
         ensures within { IfOk result (λ bytes. length bytes.items ≤ limit) }
         ensures too_long { IsErrOf result ReadNo.TooLong → IsTooLong (store self.old).files name.now limit }
+        ensures faults { (store self.new).faults ≡ faults_after_read result (store self.old).faults }
         ensures cause { IsErrOf result ReadNo.Failed → Rose (store self.old).faults (store self.new).faults }
         ensures later { (store self.old).faults ≤ (store self.new).faults }
         ensures reads { (store self.new).reads ≡ counted (store self.old).reads }

@@ -2,8 +2,10 @@
 
 ghost use Rattle.std.specs.Prelude.{◌≡◌, ◌<◌, ◌≤◌, Some, length, take, is_ok, IfOk, OnOk, OnErr};
 ghost use Rattle.slice_base.specs.Causes.{HasCause, counted};
+ghost use Rattle.outside.specs.Faults.{faults_after};
 ghost use Rattle.outside.specs.Holding.{Gained, HasLength, IsKeptOrEmptied, emptied_of};
 ghost use Rattle.outside.specs.Output.{Output, OnlyPut, Put, PutFront};
+ghost use Rattle.outside.specs.Walks.{PutLaws};
 
 use slice_base::{Failed, Text};
 
@@ -15,6 +17,7 @@ pub trait Sink {
 
     /// Empties the output and names it. Where that fails it holds what it held before, or nothing.
     fn begin(&mut self, name: Text) -> Result<(), Failed>
+        ensures faults { (output self.new).faults ≡ faults_after result (output self.old).faults }
         ensures cause { HasCause (output self.old).faults (output self.new).faults result }
         ensures name { (output self.new).name ≡ Some name }
         ensures begun { (output self.new).begun ≡ is_ok result }
@@ -27,6 +30,7 @@ pub trait Sink {
     /// Takes at least one byte from the piece's front, and says how many.
     fn put(&mut self, piece: &[u8]) -> Result<usize, Failed>
         requires { 0 < length piece.now }
+        ensures faults { (output self.new).faults ≡ faults_after result (output self.old).faults }
         ensures cause { HasCause (output self.old).faults (output self.new).faults result }
         ensures taken { IfOk result (λ n. (0 < n) × (n ≤ length piece.now)) }
         ensures held { IfOk result (λ n. Gained (output self.old).content (take n piece.now) (output self.new).content) }
@@ -35,6 +39,7 @@ pub trait Sink {
 
     /// Ends the output. What it holds stays, whether that fails or not.
     fn end(&mut self) -> Result<(), Failed>
+        ensures faults { (output self.new).faults ≡ faults_after result (output self.old).faults }
         ensures cause { HasCause (output self.old).faults (output self.new).faults result }
         ensures ends { (output self.new).ends ≡ counted (output self.old).ends }
         ensures held { OnOk result (HasLength (output self.old).content (output self.new).held_at_end) }
@@ -60,3 +65,9 @@ pub fn put_all<S: Sink>(sink: &mut S, bytes: &[u8]) -> Result<(), Failed>
     }
     Ok(())
 }
+
+/// Puts one after another are one put of all their bytes. A caller that puts a text piece by piece calls
+/// this for the laws that its proof cites; when it runs it does nothing.
+pub fn puts_add_up()
+    ensures { PutLaws }
+{}
