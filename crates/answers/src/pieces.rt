@@ -4,7 +4,7 @@ ghost use Rattle.std.specs.Prelude.{◌≡◌, ◌++◌, codes, decimal, OnOk, O
 ghost use Rattle.outside.specs.Output.{Put, PutFront};
 ghost use Rattle.answers.specs.Said.{scope_text};
 
-use outside::{Sink, put_all};
+use outside::{Sink, put_all, puts_add_up};
 use settings_core::Scope;
 use slice_base::Failed;
 
@@ -13,6 +13,7 @@ pub(crate) fn put_two<S: Sink>(console: &mut S, first: &[u8], second: &[u8]) -> 
     ensures ok { OnOk result (Put (S.output console.old) (first.now ++ second.now) (S.output console.new)) }
     ensures err { OnErr result (PutFront (S.output console.old) (first.now ++ second.now) (S.output console.new)) }
 {
+    puts_add_up();
     put_all(console, first)?;
     put_all(console, second)
 }
@@ -37,6 +38,7 @@ pub(crate) fn put_numbers<S: Sink>(
     ensures ok { OnOk result (Put (S.output console.old) (first.now ++ decimal m ++ second.now ++ decimal n) (S.output console.new)) }
     ensures err { OnErr result (PutFront (S.output console.old) (first.now ++ decimal m ++ second.now ++ decimal n) (S.output console.new)) }
 {
+    puts_add_up();
     put_number(console, first, m)?;
     put_number(console, second, n)
 }
@@ -63,6 +65,7 @@ pub(crate) fn put_key<S: Sink>(
     ensures ok { OnOk result (Put (S.output console.old) (text.now ++ scope_text scope ++ codes " " ++ key.now) (S.output console.new)) }
     ensures err { OnErr result (PutFront (S.output console.old) (text.now ++ scope_text scope ++ codes " " ++ key.now) (S.output console.new)) }
 {
+    puts_add_up();
     put_all(console, text)?;
     put_scope(console, scope)?;
     put_two(console, b" ", key)

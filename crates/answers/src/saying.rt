@@ -6,7 +6,7 @@ ghost use Rattle.answers.specs.Said.{refusal_text, said_refusal, said_done};
 
 use crate::pieces::{put_key, put_number, put_numbers, put_two};
 use crate::refusal::Refusal;
-use outside::{Sink, put_all};
+use outside::{Sink, put_all, puts_add_up};
 use slice_base::Failed;
 
 // Why the job wasn't done.
@@ -69,6 +69,7 @@ pub fn put_refusal<S: Sink>(console: &mut S, refusal: &Refusal) -> Result<(), Fa
     ensures ok { OnOk result (Put (S.output console.old) (said_refusal refusal.now) (S.output console.new)) }
     ensures err { OnErr result (PutFront (S.output console.old) (said_refusal refusal.now) (S.output console.new)) }
 {
+    puts_add_up();
     put_all(console, b"error: ")?;
     put_text(console, refusal)?;
     put_all(console, b"\n")
@@ -80,6 +81,7 @@ pub fn put_done<S: Sink>(console: &mut S, layers: u32) -> Result<(), Failed>
     ensures ok { OnOk result (Put (S.output console.old) (said_done layers) (S.output console.new)) }
     ensures err { OnErr result (PutFront (S.output console.old) (said_done layers) (S.output console.new)) }
 {
+    puts_add_up();
     put_number(console, b"sliced ", u64::from(layers))?;
     put_all(console, b" layers\n")
 }
