@@ -1,12 +1,13 @@
 // Finds what is wrong with pairs.
 
 ghost use Rattle.std.specs.Prelude.{◌≡◌, if◌then◌else◌};
-ghost use Rattle.settings_core.specs.Reading.{number_in, position_in, is_allowed, is_position};
+ghost use Rattle.settings_table.specs.Ranges.{number_in, is_allowed};
+ghost use Rattle.settings_core.specs.Reading.{position_in, is_position};
 ghost use Rattle.settings_core.specs.Fault.{number_fault, text_fault, value_fault, pair_fault, first_fault};
 
 use crate::pairs::{Given, Pair};
 use crate::reading::{fits, is_near, read_position, read_seam, read_truth};
-use crate::table::{Kind, Range, Setting};
+use settings_table::{Kind, Range, Setting};
 
 /// Why pairs give no settings. Pairs and meshes are counted from 0.
 #[derive(Clone, Copy, PartialEq, Eq, Debug)]
@@ -17,6 +18,7 @@ pub enum SettingFault {
     OutOfRange { pair: u64 },
     /// The extruder of the mesh isn't one of the printer's.
     UnknownExtruder { mesh: u8 },
+    /// There was no memory for the settings.
     NoMemory,
 }
 

@@ -8,8 +8,8 @@ ghost use Rattle.settings_core.specs.Valid.{IsValid};
 use crate::fault::{SettingFault, first_fault};
 use crate::pairs::{Pair, Scope};
 use crate::resolved::{ExtruderSettings, MeshSettings, Settings};
-use crate::table::Setting;
 use crate::value::{code, count, extruder, position, seam, truth};
+use settings_table::Setting;
 use slice_base::{Items, NoMemory};
 use std::alloc::Global;
 
