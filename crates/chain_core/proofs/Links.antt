@@ -6,7 +6,8 @@ use Rattle.std.proofs.lemmas.List.{append_assoc, append-nil, get_or-set_same, ge
 use Rattle.slice_base.specs.declared.points.Pt.{Pt}
 use Rattle.slice_base.specs.declared.points.Edge.{Edge}
 use Rattle.chain_core.specs.declared.chains.Chains.{Chains}
-use Rattle.chain_core.specs.Link.{same_point, first_from, Found, extend, put_point, go_on, chain_from, put_chain, link_within, link_of}
+use Rattle.slice_base.specs.Plane.{same_point}
+use Rattle.chain_core.specs.Link.{first_from, Found, extend, put_point, go_on, chain_from, put_chain, link_within, link_of}
 use Rattle.chain_core.specs.Marked.{unmarked, nowhere, extend_all, put_chains}
 use Rattle.chain_core.proofs.Walks.{length-first_from}
 

@@ -5,7 +5,8 @@ use Rattle.std.proofs.lemmas.Bool.{cases_eq}
 use Rattle.std.proofs.lemmas.List.{append_assoc, append-nil, length-set, get_or-set_same, get_or-set_other}
 use Rattle.slice_base.specs.declared.points.Pt.{Pt}
 use Rattle.slice_base.specs.declared.points.Edge.{Edge}
-use Rattle.chain_core.specs.Link.{same_point, first_from, behind, Found, Chain, extend, put_point}
+use Rattle.slice_base.specs.Plane.{same_point}
+use Rattle.chain_core.specs.Link.{first_from, behind, Found, Chain, extend, put_point}
 use Rattle.chain_core.specs.Marked.{unmarked, extend_all, put_points, KeepsMarks, found_at, nowhere}
 
 length-choice : (b : Bool) (e : Edge) (es : List Edge) (o : Option Found) (found : Found) → ((q : Found) → o ≡ Some q → length es ≡ suc (length q.others)) → cond b (Some (record { edge = e; others = es })) (behind e o) ≡ Some found → suc (length es) ≡ suc (length found.others)
