@@ -4,7 +4,7 @@ use Rattle.std.specs.Prelude.{count_by, position, bytes_eq, codes, ◌==◌, ◌
 use Rattle.std.specs.List.{All, AllByRecursion}
 use Rattle.std.proofs.lemmas.Bool.{leb-true, leb-false, eqb-false}
 use Rattle.std.proofs.lemmas.Grind.{common_steps}
-use Rattle.cli_words.specs.Choices.{Piece, alone, taking, lacking, Chosen, settings, mesh, extruder, everything, pair, output, workers, journal, nothing, cut, words_in, is_settings, is_mesh, is_full, or_fault, if_within, numeral_after, number_of, extruder_if, workers_if, numbered, alone_of, pair_at, taken_of, choice_of, with_choice, read, choices_of}
+use Rattle.cli_words.specs.Choices.{Piece, alone, taking, lacking, Chosen, settings, mesh, extruder, everything, pair, output, workers, journal, nothing, cut, words_in, is_settings, is_mesh, or_fault, if_within, numeral, number_of, extruder_if, workers_if, numbered, alone_of, pair_at, choice_of, with_choice, read, choices_of}
 use Rattle.cli_words.specs.Command.{Place, start, moved, items_of, all_items, output_in, is_none, task_of, kind_of, needs_output, task_command, task_if, gen_file, gen_output, gen_numbered, gen_of, command_by, command_of, item_extruders, IsTask, IsSound}
 use Rattle.cli_words.specs.declared.choice.Taker.{Taker}
 use Rattle.cli_words.specs.declared.choice.Taker.TheVariants as taker
@@ -45,7 +45,7 @@ below_cond true x y p q = p
 below_cond false x y p q = q
 
 below_number : (ds : List ℕ) → IfBelow (number_of 1 0 7 ds)
-below_number ds = below_cond (nat_le 1 (length ds) && nat_le (length ds) 1) (if_within 0 7 (numeral_after 0 ds)) None (below_within (numeral_after 0 ds)) tt
+below_number ds = below_cond (nat_le 1 (length ds) && nat_le (length ds) 1) (if_within 0 7 (numeral ds)) None (below_within (numeral ds)) tt
 
 fine_cond : (m : ℕ) (b : Bool) (x y : Option Chosen) → IfFine m x → IfFine m y → IfFine m (cond b x y)
 fine_cond m true x y p q = p

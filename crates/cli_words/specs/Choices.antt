@@ -1,6 +1,7 @@
 -- What the words of a command line choose. A word is the list of its bytes.
-use Rattle.std.specs.Prelude.{ℕ, ◌+◌, ◌-◌, ◌*◌, ◌==◌, nat_le, Bool, true, false, cond, ◌&&◌, List, [], ◌∷◌, ◌++◌, length, take, drop, position, count_by, Option, Some, None, Result, Ok, Err, bytes_eq, codes}
-use Rattle.std.specs.Char.{is_ascii_digit}
+use Rattle.std.specs.Prelude.{ℕ, ◌+◌, ◌==◌, nat_le, Bool, true, false, cond, ◌&&◌, List, [], ◌∷◌, ◌++◌, length, take, drop, position, count_by, Option, Some, None, Result, Ok, Err, bytes_eq, codes}
+use Rattle.std.specs.Str.{all_ascii_digits}
+use Rattle.std.specs.Str.Parse.{digits_value}
 use Rattle.cli_words.specs.declared.choice.Taker.{Taker}
 use Rattle.cli_words.specs.declared.choice.Taker.TheVariants.{Settings, Mesh, Pair, Output}
 
@@ -18,6 +19,7 @@ pub data Piece : Type 0 where
   taking : Taker → List ℕ → Piece
   lacking : Piece
 
+-- a word is a piece by itself, unless it takes the next
 abbrev pub opened : List ℕ → Option Taker → List Piece
 opened w None = alone w ∷ []
 opened w (Some t) = []
@@ -29,6 +31,7 @@ cut (Some t) [] = lacking ∷ []
 cut None (w ∷ ws) = opened w (taker_of w) ++ cut (taker_of w) ws
 cut (Some t) (w ∷ ws) = taking t w ∷ cut None ws
 
+-- how many words a piece has
 abbrev pub words_in : Piece → ℕ
 words_in (alone w) = 1
 words_in (taking t w) = 2
@@ -46,23 +49,25 @@ pub data Chosen : Type 0 where
   journal : Chosen
   nothing : Chosen
 
--- the number that digits write behind those of n, where all bytes are digits
-abbrev pub numeral_after : ℕ → List ℕ → Option ℕ
-numeral_after n [] = Some n
-numeral_after n (c ∷ cs) = cond (is_ascii_digit c) (numeral_after (n * 10 + (c - 48)) cs) None
+-- the number that bytes write, where all of them are digits
+abbrev pub numeral : List ℕ → Option ℕ
+numeral ds = cond (all_ascii_digits ds) (Some (digits_value 10 ds)) None
 
+-- a number from the least to the greatest
 abbrev pub if_within : ℕ → ℕ → Option ℕ → Option ℕ
 if_within least greatest None = None
 if_within least greatest (Some n) = cond (nat_le least n && nat_le n greatest) (Some n) None
 
 -- one digit or more, at most so many, for a number from the least to the greatest
 abbrev pub number_of : ℕ → ℕ → ℕ → List ℕ → Option ℕ
-number_of most least greatest ds = cond (nat_le 1 (length ds) && nat_le (length ds) most) (if_within least greatest (numeral_after 0 ds)) None
+number_of most least greatest ds = cond (nat_le 1 (length ds) && nat_le (length ds) most) (if_within least greatest (numeral ds)) None
 
+-- the extruder of a number, where there is one
 abbrev pub extruder_if : Option ℕ → Option Chosen
 extruder_if None = None
 extruder_if (Some n) = Some (extruder n)
 
+-- that many workers, where there is a number
 abbrev pub workers_if : Option ℕ → Option Chosen
 workers_if None = None
 workers_if (Some n) = Some (workers n)
@@ -95,10 +100,12 @@ taken_of Mesh w = Some (mesh w)
 taken_of Output w = Some (output w)
 taken_of Pair w = pair_at w (position (λ c. c == 61) w)
 
+-- a settings file is chosen
 abbrev pub is_settings : Chosen → Bool
 is_settings (settings w) = true
 is_settings c = false
 
+-- a mesh is chosen
 abbrev pub is_mesh : Chosen → Bool
 is_mesh (mesh w) = true
 is_mesh c = false
@@ -109,6 +116,7 @@ is_full Settings files meshes = nat_le 16 files
 is_full Mesh files meshes = nat_le 16 meshes
 is_full t files meshes = false
 
+-- what is chosen, or word n is at fault
 abbrev pub or_fault : ℕ → Option Chosen → Result Chosen ℕ
 or_fault n None = Err n
 or_fault n (Some c) = Ok c
@@ -120,6 +128,7 @@ choice_of n files meshes lacking = Err n
 choice_of n files meshes (alone w) = or_fault n (alone_of w)
 choice_of n files meshes (taking t w) = cond (is_full t files meshes) (Err n) (or_fault (n + 1) (taken_of t w))
 
+-- a choice and then others, or the fault
 abbrev pub with_choice : Result Chosen ℕ → (Chosen → Result (List Chosen) ℕ) → Result (List Chosen) ℕ
 with_choice (Err n) rest = Err n
 with_choice (Ok c) rest = rest c

@@ -21,15 +21,18 @@ pub record Place : Type 0 where
   pub extruder : ℕ
   pub meshes : ℕ
 
+-- before any choice
 abbrev pub start : Place
 start = record { scope = scope.Global; extruder = 0; meshes = 0 }
 
+-- what later choices belong to
 abbrev pub moved : Place → Chosen → Place
 moved p (extruder n) = record { scope = scope.Extruder n; extruder = n; meshes = p.meshes }
 moved p everything = record { scope = scope.Global; extruder = p.extruder; meshes = p.meshes }
 moved p (mesh name) = record { scope = scope.Mesh p.meshes; extruder = p.extruder; meshes = p.meshes + 1 }
 moved p c = p
 
+-- the place behind these choices
 abbrev pub place_after : List Chosen → Place
 place_after cs = fold moved start cs
 
@@ -40,33 +43,40 @@ items_of p (mesh name) = item.Mesh name p.extruder ∷ []
 items_of p (pair key value) = item.Pair (record { scope = p.scope; key = key; value = Words value }) ∷ []
 items_of p c = []
 
+-- what all choices add, in order
 abbrev pub all_items : Place → List Chosen → List Item
 all_items p [] = []
 all_items p (c ∷ cs) = items_of p c ++ all_items (moved p c) cs
 
--- the last one counts
+-- of the numbers of workers the last one counts
 abbrev pub workers_or : ℕ → Chosen → ℕ
 workers_or n (workers m) = m
 workers_or n c = n
 
+-- of the files to write the last one counts
 abbrev pub output_or : Option (List ℕ) → Chosen → Option (List ℕ)
 output_or o (output name) = Some name
 output_or o c = o
 
+-- the journal is asked for once at least
 abbrev pub journal_or : Bool → Chosen → Bool
 journal_or b journal = true
 journal_or b c = b
 
+-- the file to write, where one is chosen
 abbrev pub output_in : List Chosen → Option (List ℕ)
 output_in cs = fold output_or None cs
 
+-- the task that choices make: four workers and no journal, unless they say otherwise
 abbrev pub task_of : List Chosen → Task
 task_of cs = record { workers = fold workers_or 4 cs; journal = fold journal_or false cs; out = output_in cs; items = all_items start cs }
 
+-- no file is named
 abbrev pub is_none : Option (List ℕ) → Bool
 is_none None = true
 is_none (Some name) = false
 
+-- the command that a word names
 abbrev pub kind_of : List ℕ → Option Kind
 kind_of w =
     cond (bytes_eq w (codes "slice")) (Some kind.Slice)
@@ -74,10 +84,12 @@ kind_of w =
     (cond (bytes_eq w (codes "check")) (Some kind.Check)
     (cond (bytes_eq w (codes "gen")) (Some kind.Gen) None)))
 
+-- the command writes a file
 abbrev pub needs_output : Kind → Bool
 needs_output kind.Check = false
 needs_output k = true
 
+-- the command of a task
 abbrev pub task_command : Kind → Task → Command
 task_command kind.Slice t = command.Slice t
 task_command kind.Serial t = command.Serial t
@@ -89,28 +101,33 @@ task_checked k cs =
     cond (count_by is_mesh cs == 0) (Err NoInput)
     (cond (needs_output k && is_none (output_in cs)) (Err NoOutput) (Ok (task_command k (task_of cs))))
 
+-- a task, or the first word at fault
 abbrev pub task_if : Kind → Result (List Chosen) ℕ → Result Command WordFault
 task_if k (Err n) = Err (BadWord n)
 task_if k (Ok cs) = task_checked k cs
 
--- `gen`, a number of at most ten digits, `-o` and a file; no other word
+-- behind `-o`: a file, and no other word
 abbrev pub gen_file : ℕ → List (List ℕ) → Result Command WordFault
 gen_file n [] = Err (BadWord 3)
 gen_file n (name ∷ []) = Ok (command.Gen n name)
 gen_file n (name ∷ w ∷ ws) = Err (BadWord 5)
 
+-- behind the number: `-o` and a file
 abbrev pub gen_output : ℕ → List (List ℕ) → Result Command WordFault
 gen_output n [] = Err NoOutput
 gen_output n (w ∷ ws) = cond (bytes_eq w (codes "-o")) (gen_file n ws) (Err (BadWord 3))
 
+-- behind `gen`: a number, and what follows it
 abbrev pub gen_numbered : Option ℕ → List (List ℕ) → Result Command WordFault
 gen_numbered None ws = Err (BadWord 2)
 gen_numbered (Some n) ws = gen_output n ws
 
+-- `gen`, a number of at most ten digits, `-o` and a file; no other word
 abbrev pub gen_of : List (List ℕ) → Result Command WordFault
 gen_of [] = Err (BadWord 2)
 gen_of (w ∷ ws) = gen_numbered (number_of 10 0 4294967295 w) ws
 
+-- what the words behind the first one give
 abbrev pub command_by : Option Kind → List (List ℕ) → Result Command WordFault
 command_by None ws = Err (BadWord 1)
 command_by (Some kind.Gen) ws = gen_of ws
@@ -121,16 +138,18 @@ unfoldable pub command_of : List (List ℕ) → Result Command WordFault
 command_of [] = Err (BadWord 1)
 command_of (w ∷ ws) = command_by (kind_of w) ws
 
--- the file names of a command, in order
+-- the file names of items, in order
 abbrev pub item_names : List Item → List (List ℕ)
 item_names [] = []
 item_names (item.Pair p ∷ is) = item_names is
 item_names (item.Settings name ∷ is) = name ∷ item_names is
 item_names (item.Mesh name e ∷ is) = name ∷ item_names is
 
+-- the file names of a task, in order: the file to write, and those of the items
 abbrev pub task_names : Task → List (List ℕ)
 task_names t = option_to_list t.out ++ item_names t.items
 
+-- the file names of a command, in order
 abbrev pub names_of : Command → List (List ℕ)
 names_of (command.Slice t) = task_names t
 names_of (command.Serial t) = task_names t

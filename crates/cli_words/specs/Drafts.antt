@@ -4,6 +4,7 @@ use Rattle.cli_words.specs.declared.draft.Draft.{Draft}
 use Rattle.cli_words.specs.Choices.{Chosen, is_settings}
 use Rattle.cli_words.specs.Command.{Place, workers_or, journal_or, output_or, items_of, moved}
 
+-- what later choices belong to
 abbrev pub place_of : Draft → Place
 place_of d = record { scope = d.scope; extruder = d.extruder; meshes = d.meshes }
 

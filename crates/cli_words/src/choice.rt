@@ -1,7 +1,7 @@
 // What a word chooses, with the word behind it where it takes one.
 
 ghost use Rattle.std.specs.Prelude.{◌≡◌, ◌+◌, ◌<◌, ◌≤◌, ◌==◌, ◌∷◌, length, map, drop, position, string_bytes, MatchResult, IfSome, IfOk, true, Ok, Err, None, option_map};
-ghost use Rattle.cli_words.specs.Choices.{taker_of, cut, words_in, numeral_after, number_of, extruder_if, workers_if, numbered, alone_of, pair_at, taken_of, is_full, or_fault, is_mesh, choice_of};
+ghost use Rattle.cli_words.specs.Choices.{taker_of, cut, words_in, numeral, number_of, extruder_if, workers_if, numbered, alone_of, pair_at, taken_of, is_full, or_fault, is_mesh, choice_of};
 ghost use Rattle.cli_words.specs.Seen.{seen_piece, seen};
 
 /// A word that takes the next one.
@@ -115,9 +115,10 @@ impl Choice<'_> {
     }
 }
 
+// The number that these bytes write, where all of them are digits.
 fn numeral(digits: &[u8]) -> Option<u64>
     requires { length digits.now ≤ 10 }
-    ensures { result ≡ numeral_after 0 digits.now }
+    ensures { result ≡ numeral digits.now }
 {
     let mut value: u64 = 0;
     let mut at = 0;

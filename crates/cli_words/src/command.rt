@@ -1,7 +1,7 @@
 // Commands, and the faults of words.
 
 use settings_core::Pair;
-use slice_base::{Items, NoMemory, Text};
+use slice_base::{Items, Text};
 
 /// What a task is made from, in the order of the words.
 #[derive(Drop)]
@@ -48,11 +48,6 @@ pub enum WordFault {
     NoInput,
     /// There is no file to write.
     NoOutput,
+    /// The words have no fault, but there was no memory for the command.
     NoMemory,
-}
-
-impl From<NoMemory> for WordFault {
-    fn from(_: NoMemory) -> Self {
-        WordFault::NoMemory
-    }
 }
