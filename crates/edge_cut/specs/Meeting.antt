@@ -46,6 +46,7 @@ crossing_of e f =
 abbrev pub is_beside : Edge → Pt → Bool
 is_beside e p = is_between e.from.x p.x e.to.x && is_between e.from.y p.y e.to.y
 
+-- the point, where it lies on e: it is one of e's line
 abbrev pub end_on : Edge → Pt → List Pt
 end_on e p = cond (is_beside e p) (p ∷ []) []
 
@@ -57,5 +58,6 @@ shared_of e f = cond (int_eq (cross_of e.from e.to e.from f.from) (pos 0)) (end_
 abbrev pub meetings_of : Edge → Edge → List Pt
 meetings_of e f = cond (int_eq (turn_of e f) (pos 0)) (shared_of e f) (crossing_of e f)
 
+-- the points of an answer, in order
 abbrev pub points_of : Met → List Pt
 points_of m = option_to_list m.first ++ option_to_list m.second

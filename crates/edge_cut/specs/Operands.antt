@@ -16,6 +16,7 @@ abbrev pub swapped : List Marked → List Marked
 swapped [] = []
 swapped (m ∷ ms) = record { edge = m.edge; second = not m.second } ∷ swapped ms
 
+-- the same answer, with the operands of its edges exchanged
 abbrev pub swapped_answer : Result (List Marked) ℕ → Result (List Marked) ℕ
 swapped_answer (Ok ms) = Ok (swapped ms)
 swapped_answer (Err count) = Err count

@@ -2,13 +2,12 @@
 
 ghost use Rattle.std.specs.Prelude.{◌≡◌, ◌<◌, ◌≤◌, [], ℕ, length, filter, IfOk, Ok, Err, MatchResult, true};
 ghost use Rattle.std.specs.List.{AllPass};
-ghost use Rattle.edge_cut.specs.Points.{same_point};
-ghost use Rattle.edge_cut.specs.Cut.{has_length, with_length_of, pass_of, cut_of, IsCutFault, GoesOn, EndsWith};
-ghost use Rattle.edge_cut.specs.Boxes.{Box, EdgesIn};
+ghost use Rattle.slice_base.specs.Plane.{same_point};
+ghost use Rattle.edge_cut.specs.Cut.{has_length, with_length_of, pass_of, cut_of, IsCutFault, GoesOn, EndsWith, EdgesIn};
+ghost use Rattle.slice_base.specs.Boxes.{Box};
 
 use crate::passes::{MOST_EDGES, Marked, pass};
-use crate::plane::is_same;
-use slice_base::NoMemory;
+use slice_base::{NoMemory, is_same};
 use std::alloc::Global;
 
 /// Why edges weren't cut.
@@ -17,6 +16,7 @@ pub enum CutFault {
     /// Some list of edges, before the first pass or after one, was the first with more than 100,000
     /// edges: it has `count`.
     TooTangled { count: u64 },
+    /// There was no memory for the result.
     NoMemory,
 }
 

@@ -16,7 +16,7 @@ pub use laws::{
     is_cut_alike, is_cut_exchanged, own_edge_adds_no_stop, stays_cut, stops_are_ordered,
 };
 pub use passes::Marked;
-pub use plane::{cross, dot, is_same};
+pub use plane::{cross, dot};
 
 #[cfg(test)]
 mod tests;
