@@ -1,5 +1,5 @@
 -- Triangles filed by height give the section at each height.
-use Rattle.std.proofs.Common.{◌≡◌, ◌≤◌, ◌<◌, ◌+◌, ◌*◌, ◌/◌, ◌∙◌, ◌++◌, ◌⊎◌, inl, inr, ℕ, zero, suc, ℤ, ◌≤ℤ◌, ◌<ℤ◌, ◌-ℤ◌, Bool, true, false, cond, ◌&&◌, List, [], ◌∷◌, length, get_or, take, leb, ltb, max, append-nil, Option, None, arith, refl, sym, ap, subst}
+use Rattle.std.proofs.Common.{◌^◌, ◌≡◌, ◌≤◌, ◌<◌, ◌+◌, ◌*◌, ◌/◌, ◌∙◌, ◌++◌, ◌⊎◌, inl, inr, ℕ, zero, suc, ℤ, ◌≤ℤ◌, ◌<ℤ◌, ◌-ℤ◌, Bool, true, false, cond, ◌&&◌, List, [], ◌∷◌, length, get_or, take, leb, ltb, max, append-nil, Option, None, arith, refl, sym, ap, subst}
 use Rattle.std.specs.Prelude.{int_lt, int_le, ◌||◌}
 use Rattle.std.specs.Int.{int_min, int_max, div_ceil}
 use Rattle.std.specs.Int.RustNames.{unsigned_abs}
@@ -132,9 +132,10 @@ shelf_found tris s z within filed false false ea eb =
     filed.found z (lt-false z s.scale.span.low ea) (lt-false s.scale.span.high z eb) ∙ ap (λ ts. section_of ts z) (take_all (length tris) tris all)
 
 -- all triangles are filed, on as many shelves as there have to be
-pub all_filed : (tris : List Tri) (s : Shelves) → 0 < s.scale.step → length s.lists.items ≤ max (length tris) 1 + 1 → All (λ t. IsWithin s.scale.span (span_of t)) tris → shelf_of s.scale s.scale.span.high < length s.lists.items
+pub all_filed : (tris : List Tri) (s : Shelves) → length tris < 2 ^ 32 → 0 < s.scale.step → length s.lists.items ≤ max (length tris) 1 + 1 → All (λ t. IsWithin s.scale.span (span_of t)) tris → shelf_of s.scale s.scale.span.high < length s.lists.items
     → AreFirstFiled tris s.scale s.lists.items (length tris) → AreFiled tris s
-all_filed tris s some few within covers filed = record {
+all_filed tris s numbered some few within covers filed = record {
+  numbered = numbered;
   some = some;
   few = few;
   within = λ z from to. let m = shelf-mono s.scale z s.scale.span.high some from to in omega (arith, m, covers);

@@ -4,12 +4,14 @@
 #![tactic(auto)]
 
 mod cutting;
+mod laws;
 mod mesh;
 mod placing;
 mod planes;
 mod shelves;
 
 pub use cutting::section;
+pub use laws::extent_is_tight;
 pub use mesh::{Mesh, mesh_of};
 pub use placing::{OutsideVolume, put_in_place};
 pub use planes::{layer_count, plane};

@@ -68,6 +68,7 @@ fn a_plane_through_the_waist_gives_it_once_counterclockwise(rt: HostRuntime) -> 
 fn a_plane_that_touches_the_top_gives_nothing(rt: HostRuntime) -> Result<(), Fail> {
     let (_, tris) = bipyramid();
     let mesh = mesh_of(rt.alloc(), &tris)?;
+    assert_eq!(rt; mesh.count(), 8);
     let edges = section(rt.alloc(), &mesh, 20000)?;
     assert_eq!(rt; edges.len(), 0);
     Ok(())

@@ -1,0 +1,16 @@
+// Laws of places: each function's contract is one, and its body is empty.
+
+ghost use Rattle.std.specs.Prelude.{◌≡◌, ◌<◌, length};
+ghost use Rattle.cross_section.specs.declared.placing.Extent.{Extent};
+ghost use Rattle.cross_section.specs.Place.{corners_of, extent_of};
+ghost use Rattle.cross_section.specs.Extents.{IsExtent};
+
+use slice_base::Tri;
+
+/// The extent of triangles goes in each direction from the least coordinate of a corner to the greatest.
+/// No other one does.
+pub fn extent_is_tight(tris: &[Tri])
+    requires { 0 < length tris.now }
+    ensures tight { IsExtent (corners_of tris.now) (extent_of tris.now) }
+    ensures one { (e : Extent) → IsExtent (corners_of tris.now) e → e ≡ extent_of tris.now }
+{}
