@@ -1,3 +1,5 @@
+// The lock: the turn's word, the value's slot, and the calls of whoever has a seat.
+
 ghost use Rattle.std.specs.Prelude.{◌≡◌, ◌+◌, ◌<◌, ◌≤◌, ◌++◌, ℕ, true, false, [], ◌∷◌, IfOk, IfErr, Some, None, MatchOption, IfSome};
 ghost use mathlib.Core.List.{IsPrefix};
 ghost use Rattle.turn_lock.specs.Events.{made_by, has_number, GrewBy, longer};
@@ -108,8 +110,8 @@ impl<T: Kept> TurnLock<T> {
         ensures seat { seat.new ≡ record seat.old { made = seat.old.made + 1 } }
         ensures new { result ≡ record { lock = seat.old.lock; name = seat.old.name; number = seat.old.made; covers = seat.old.made ∷ []; seen = seat.old.seen; turn = false; root = false; made = 0 } }
     {
-        let _seats = self.seats;
         let number = seat.made;
+        prove!(number < self.seats);
         let inner = self.table.shared.split_seat::<Draw>(&mut seat.inner);
         seat.made = number + 1;
         Seat {
@@ -195,13 +197,23 @@ impl<T: Kept> TurnLock<T> {
         requires free { seat.old.turn ≡ false }
         ensures { seat.new ≡ seat.old }
     {
-        let shared = &self.table.shared;
-        let found = shared.peek(TURN);
-        if found != 0 {
-            shared.fetch_add::<Count>(&mut seat.inner, SLEEPERS, 1);
-            shared.park(rt, TURN, (found & 0xffff_ffff) as u32);
-            shared.fetch_sub::<Count>(&mut seat.inner, SLEEPERS, 1);
+        let holder = self.table.shared.peek(TURN);
+        if holder != 0 {
+            self.sleep(rt, seat, holder);
         }
+    }
+
+    // Sleeps while the turn's word is that of this holder, and counts the seat among the sleepers.
+    fn sleep<R: Wait>(&self, rt: &R, seat: &mut Seat<T>, holder: u64)
+        requires own { seat.old.lock ≡ self.now.id }
+        requires free { seat.old.turn ≡ false }
+        requires held { 0 < holder }
+        ensures { seat.new ≡ seat.old }
+    {
+        let shared = &self.table.shared;
+        shared.fetch_add::<Count>(&mut seat.inner, SLEEPERS, 1);
+        shared.park(rt, TURN, (holder & 0xffff_ffff) as u32);
+        shared.fetch_sub::<Count>(&mut seat.inner, SLEEPERS, 1);
     }
 
     /// Takes another seat back. What either had seen begins what the seat has then seen, with the same events

@@ -1,3 +1,5 @@
+// Threads that write into one diary, each entry in a turn of its own.
+
 ghost use Rattle.std.specs.Prelude.{◌≡◌, ◌<◌, true, false, [], ◌∷◌, IfOk};
 ghost use Rattle.turn_lock.specs.Events.{GrewBy};
 
