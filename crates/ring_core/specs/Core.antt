@@ -24,6 +24,7 @@ pub record State : Type 0 where
   pub cause : Option Cause
   pub apart : Bool
 
+-- no layer is claimed, and nobody has anything
 abbrev pub start : State
 start = record { claimed = 0; taken = 0; placed = λ _. false; work = λ _. None; holder = None; halted = λ _. false; cause = None; apart = false }
 
@@ -31,6 +32,7 @@ start = record { claimed = 0; taken = 0; placed = λ _. false; work = λ _. None
 abbrev pub put : {A : Type 0} → (ℕ → A) → ℕ → A → ℕ → A
 put f n a m = cond (m == n) a (f m)
 
+-- whether that worker holds the turn
 abbrev pub held_by : Option ℕ → ℕ → Bool
 held_by None w = false
 held_by (Some h) w = h == w
@@ -67,9 +69,11 @@ abbrev pub RunsFrom : ℕ → ℕ → State → List Event → Type 0
 RunsFrom n m s [] = Unit {0}
 RunsFrom n m s (e ∷ es) = Comes n m s e × RunsFrom n m (then_event s e) es
 
+-- the events are a run of n layers and m workers, from the start
 abbrev pub IsRun : ℕ → ℕ → List Event → Type 0
 IsRun n m es = RunsFrom n m start es
 
+-- the state behind these events
 abbrev pub after : State → List Event → State
 after s [] = s
 after s (e ∷ es) = after (then_event s e) es
@@ -84,9 +88,11 @@ pub record Stage : Type 0 where
   pub turn : Option ℕ
   pub halted : Bool
 
+-- a worker before its first event
 abbrev pub resting : Stage
 resting = record { work = None; turn = None; halted = false }
 
+-- what an event of its own makes of a worker
 abbrev pub then_stage : Stage → Event → Stage
 then_stage s (Claim w l) = record s { work = Some l }
 then_stage s (Place w l) = record s { work = None }
@@ -94,6 +100,7 @@ then_stage s (Take w l) = record s { turn = Some l }
 then_stage s (Back w l) = record s { turn = None }
 then_stage s (Halt w k) = record s { turn = None; halted = true }
 
+-- a worker behind these events of its own
 abbrev pub stage_after : Stage → List Event → Stage
 stage_after s [] = s
 stage_after s (e ∷ es) = stage_after (then_stage s e) es
