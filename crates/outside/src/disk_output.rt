@@ -1,12 +1,14 @@
-// A file that is written. This is a trusted edge: nothing is claimed of what a file has.
+// A file that is written. This is a trusted edge: what a device keeps of the bytes that it took isn't
+// claimed. What is claimed holds of any file that tells its bytes.
 
-ghost use Rattle.std.specs.Prelude.{◌≡◌, ◌≤◌, Some, None, vec_len};
-ghost use Rattle.std.specs.Bool.{OnTrue};
-ghost use Rattle.slice_base.specs.Causes.{Rose, counted};
+ghost use Rattle.std.specs.Prelude.{◌≡◌, ◌≤◌, None, [], length, IfOk, IfSome, OnOk, OnErr};
+ghost use Rattle.slice_base.specs.Causes.{HasCause, counted};
+ghost use Rattle.std.specs.Io.Buffered.{writer_buffer};
 
+use crate::counts::SinkCounts;
 use crate::sinks::Sink;
 use slice_base::{Failed, Text};
-use std::io::Write;
+use std::io::{BufWriter, Write};
 use std::rt::Files;
 use std::{fs, str};
 
@@ -14,125 +16,110 @@ use std::{fs, str};
 const BUFFER: usize = 65536;
 
 /// A sink that writes the file that it is begun under, through a buffer. It doesn't tell its bytes. A
-/// file that is there is written over and never replaced, so a device stays one. The file holds all
-/// that was put once `end` succeeded.
+/// file that is there is written over and never replaced, so a device stays one. Of a file that tells
+/// its bytes is proved: each put adds what it took to the file with the buffer behind it, and once
+/// `end` succeeded the file has all of that. After a failure it takes no more until it is begun again.
 #[derive(Drop)]
-pub struct FileSink<'a, R: Files + AllocGlobal> {
-    rt: &'a R,
-    file: Option<R::File>,
-    buffer: Vec<u8>,
-    name: Option<Text>,
-    begun: bool,
-    begins: u64,
-    ends: u64,
-    faults: u64,
+pub struct FileSink<R: Files + AllocGlobal> {
+    rt: R,
+    out: Option<BufWriter<R::File>>,
+    counts: SinkCounts,
 }
 
 // Opens the file of that name, and empties it.
-fn open<R: Files>(files: &R, name: &[u8]) -> Option<R::File> {
+fn open<R: Files + AllocGlobal>(rt: &R, name: &[u8]) -> Option<BufWriter<R::File>>
+    ensures { IfSome result (λ out. writer_buffer out ≡ []) }
+{
     let path = str::from_utf8(name).ok()?;
     let mut how = fs::OpenOptions::new();
     how.write(true);
     how.create(true);
     how.truncate(true);
-    how.open(files, path).ok()
+    let file = how.open(rt, path).ok()?;
+    BufWriter::with_capacity(rt.alloc(), BUFFER, file).ok()
 }
 
-impl<'a, R: Files + AllocGlobal> FileSink<'a, R> {
-    /// A sink that isn't begun. Opens no file.
-    pub fn of(rt: &'a R) -> Self
-        ensures begins { result.begins ≡ 0 }
-        ensures ends { result.ends ≡ 0 }
-        ensures faults { result.faults ≡ 0 }
+impl<R: Files + AllocGlobal> FileSink<R> {
+    ghost use Rattle.outside.specs.Counts.{no_begins};
+
+    /// A sink with which nothing was done yet. Opens no file.
+    pub fn of(rt: R) -> Self
+        ensures { result ≡ record { rt = rt; out = None; counts = no_begins } }
     {
         FileSink {
             rt,
-            file: None,
-            buffer: Vec::new(rt.alloc()),
-            name: None,
-            begun: false,
-            begins: 0,
-            ends: 0,
-            faults: 0,
+            out: None,
+            counts: SinkCounts::new(),
         }
     }
 
-    // Counts a fault, after which the file takes no more.
+    // A call failed: the file takes no more.
     fn fail(&mut self) -> Failed
-        ensures counted { self.new.faults ≡ counted self.old.faults }
-        ensures later { self.old.faults ≤ self.new.faults }
-        ensures rose { Rose self.old.faults self.new.faults }
-        ensures name { self.new.name ≡ self.old.name }
-        ensures begun { self.new.begun ≡ self.old.begun }
-        ensures begins { self.new.begins ≡ self.old.begins }
-        ensures ends { self.new.ends ≡ self.old.ends }
+        ensures closed { self.new.out ≡ None }
+        ensures counts { self.new.counts ≡ record self.old.counts { faults = counted self.old.counts.faults } }
+        ensures later { self.old.counts.faults ≤ self.new.counts.faults }
     {
-        self.file = None;
-        self.faults = self.faults.saturating_add(1);
-        Failed
-    }
-
-    // Writes what the buffer has gathered. Where that fails the answer is no.
-    fn flush(&mut self) -> bool
-        ensures empty { OnTrue result (vec_len self.new.buffer ≡ 0) }
-        ensures name { self.new.name ≡ self.old.name }
-        ensures begun { self.new.begun ≡ self.old.begun }
-        ensures begins { self.new.begins ≡ self.old.begins }
-        ensures ends { self.new.ends ≡ self.old.ends }
-        ensures faults { self.new.faults ≡ self.old.faults }
-    {
-        match &mut self.file {
-            None => false,
-            Some(file) => {
-                let written = file.write_all(self.buffer.as_slice()).is_ok();
-                self.buffer.clear();
-                written
-            }
-        }
+        self.out = None;
+        self.counts.fail()
     }
 }
 
-impl<'a, R: Files + AllocGlobal> Sink for FileSink<'a, R> {
-    ghost output = { λ s. record { content = None; name = s.name; begun = s.begun; begins = s.begins; ends = s.ends; held_at_end = 0; faults = s.faults } };
+impl<R: Files + AllocGlobal> Sink for FileSink<R> {
+    ghost use Rattle.outside.specs.Counts.{untold_output};
+    ghost use Rattle.outside.specs.Real.{IsOpened, Added, AllWritten};
+    ghost use Rattle.outside.specs.Steps.{after_begin, after_put, after_end};
 
-    fn begin(&mut self, name: Text) -> Result<(), Failed> {
-        self.begins = self.begins.saturating_add(1);
-        self.begun = false;
-        self.file = None;
-        self.buffer = match Vec::with_capacity(self.rt.alloc(), BUFFER) {
-            Ok(buffer) => buffer,
-            Err(_) => Vec::new(self.rt.alloc()),
-        };
-        self.file = open(self.rt, name.bytes());
-        self.name = Some(name);
-        if self.file.is_none() {
-            return Err(self.fail());
+    ghost output = { λ s. untold_output s.counts };
+
+    fn begin(&mut self, name: Text) -> Result<(), Failed>
+        ensures output { untold_output self.new.counts ≡ after_begin name result (untold_output self.old.counts) }
+        ensures cause { HasCause self.old.counts.faults self.new.counts.faults result }
+        ensures opened { OnOk result (IsOpened self.new.out) }
+        ensures closed { OnErr result (self.new.out ≡ None) }
+    {
+        self.out = None;
+        self.out = open(&self.rt, name.bytes());
+        self.counts.begin(name);
+        if self.out.is_none() {
+            return Err(self.counts.fail());
         }
-        self.begun = true;
+        self.counts.begun = true;
         Ok(())
     }
 
-    fn put(&mut self, piece: &[u8]) -> Result<usize, Failed> {
-        if self.file.is_none() || (self.buffer.len() >= BUFFER && !self.flush()) {
-            return Err(self.fail());
-        }
-        let count = piece.len().min(BUFFER - self.buffer.len());
-        match self.buffer.extend_from_slice(&piece[..count]) {
-            Ok(()) => Ok(count),
-            Err(_) => Err(self.fail()),
+    fn put(&mut self, piece: &[u8]) -> Result<usize, Failed>
+        ensures output { untold_output self.new.counts ≡ after_put piece.now result (untold_output self.old.counts) }
+        ensures cause { HasCause self.old.counts.faults self.new.counts.faults result }
+        ensures whole { IfOk result (λ n. n ≡ length piece.now) }
+        ensures added { OnOk result (Added R.File.contents piece.now self.old.out self.new.out) }
+        ensures closed { OnErr result (self.new.out ≡ None) }
+    {
+        match &mut self.out {
+            None => Err(self.fail()),
+            Some(out) => match out.write_all(piece) {
+                Ok(()) => Ok(piece.len()),
+                Err(_) => Err(self.fail()),
+            },
         }
     }
 
-    fn end(&mut self) -> Result<(), Failed> {
-        self.ends = self.ends.saturating_add(1);
-        if !self.flush() {
-            return Err(self.fail());
+    fn end(&mut self) -> Result<(), Failed>
+        ensures output { untold_output self.new.counts ≡ after_end result (untold_output self.old.counts) }
+        ensures cause { HasCause self.old.counts.faults self.new.counts.faults result }
+        ensures written { OnOk result (AllWritten R.File.contents self.old.out self.new.out) }
+        ensures closed { OnErr result (self.new.out ≡ None) }
+    {
+        self.counts.end();
+        match &mut self.out {
+            None => Err(self.fail()),
+            Some(out) => match out.flush() {
+                Ok(()) => Ok(()),
+                Err(_) => Err(self.fail()),
+            },
         }
-        self.file = None;
-        Ok(())
     }
 
     fn faults(&self) -> u64 {
-        self.faults
+        self.counts.faults
     }
 }

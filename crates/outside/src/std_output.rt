@@ -1,67 +1,64 @@
 // Standard output. This is a trusted edge: nothing is claimed of what it shows.
 
-ghost use Rattle.std.specs.Prelude.{◌≡◌, ◌≤◌, None};
-ghost use Rattle.slice_base.specs.Causes.{Rose, counted};
+ghost use Rattle.std.specs.Prelude.{◌≡◌, IsOk};
 
+use crate::counts::SinkCounts;
 use crate::sinks::Sink;
 use slice_base::{Failed, Text};
 
 /// A sink that writes to standard output, each piece at once. It doesn't tell its bytes, and keeps
 /// the name that it is begun under for itself.
 #[derive(Drop)]
-pub struct OutSink<'a, R: Print> {
-    out: &'a R,
-    name: Option<Text>,
-    begun: bool,
-    begins: u64,
-    ends: u64,
-    faults: u64,
+pub struct OutSink<R: Print> {
+    out: R,
+    counts: SinkCounts,
 }
 
-impl<'a, R: Print> OutSink<'a, R> {
-    /// Standard output.
-    pub fn of(out: &'a R) -> Self
-        ensures begins { result.begins ≡ 0 }
-        ensures ends { result.ends ≡ 0 }
-        ensures faults { result.faults ≡ 0 }
+impl<R: Print> OutSink<R> {
+    ghost use Rattle.outside.specs.Counts.{no_begins};
+
+    /// Standard output, with which nothing was done yet.
+    pub fn of(out: R) -> Self
+        ensures { result ≡ record { out = out; counts = no_begins } }
     {
         OutSink {
             out,
-            name: None,
-            begun: false,
-            begins: 0,
-            ends: 0,
-            faults: 0,
+            counts: SinkCounts::new(),
         }
     }
 }
 
-impl<'a, R: Print> Sink for OutSink<'a, R> {
-    ghost output = { λ s. record { content = None; name = s.name; begun = s.begun; begins = s.begins; ends = s.ends; held_at_end = 0; faults = s.faults } };
+impl<R: Print> Sink for OutSink<R> {
+    ghost use Rattle.outside.specs.Counts.{untold_output};
+    ghost use Rattle.outside.specs.Steps.{after_begin, after_end};
 
-    fn begin(&mut self, name: Text) -> Result<(), Failed> {
-        self.begins = self.begins.saturating_add(1);
-        self.name = Some(name);
-        self.begun = true;
+    ghost output = { λ s. untold_output s.counts };
+
+    fn begin(&mut self, name: Text) -> Result<(), Failed>
+        ensures succeeds { IsOk result }
+        ensures output { untold_output self.new.counts ≡ after_begin name result (untold_output self.old.counts) }
+    {
+        self.counts.begin(name);
+        self.counts.begun = true;
         Ok(())
     }
 
     fn put(&mut self, piece: &[u8]) -> Result<usize, Failed> {
         match self.out.write_some(piece) {
             Ok(count) if count > 0 => Ok(count),
-            _ => {
-                self.faults = self.faults.saturating_add(1);
-                Err(Failed)
-            }
+            _ => Err(self.counts.fail()),
         }
     }
 
-    fn end(&mut self) -> Result<(), Failed> {
-        self.ends = self.ends.saturating_add(1);
+    fn end(&mut self) -> Result<(), Failed>
+        ensures succeeds { IsOk result }
+        ensures output { untold_output self.new.counts ≡ after_end result (untold_output self.old.counts) }
+    {
+        self.counts.end();
         Ok(())
     }
 
     fn faults(&self) -> u64 {
-        self.faults
+        self.counts.faults
     }
 }

@@ -44,19 +44,6 @@ fn a_sink_takes_pieces_until_its_room_is_full(rt: HostRuntime) -> Result<(), Fai
 }
 
 #[test]
-fn a_sink_fails_at_the_named_calls(rt: HostRuntime) -> Result<(), Fail> {
-    let alloc = rt.alloc();
-    let mut sink = MemSink::of(alloc, 9, 9, vec![in alloc; 2u32, 4]?)?;
-    sink.begin(Text::of(alloc, b"out")?)?;
-    assert!(rt; sink.put(b"ab").is_err());
-    assert_eq!(rt; sink.put(b"ab")?, 2);
-    assert!(rt; sink.end().is_err());
-    assert_eq!(rt; sink.bytes(), b"ab".as_slice());
-    assert_eq!(rt; (sink.faults(), sink.ends(), sink.held_at_end()), (2, 1, 0));
-    Ok(())
-}
-
-#[test]
 fn a_file_is_written_and_read_again(rt: HostRuntime) -> Result<(), Fail> {
     let alloc = rt.alloc();
     let mut sink = FileSink::of(&rt);
