@@ -1,4 +1,7 @@
 pub mod Tallies
+pub mod Found
+pub mod OneOrder
+pub mod Nets
 pub mod Sides
 pub mod Sizes
 pub mod Reach

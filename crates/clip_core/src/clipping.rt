@@ -1,8 +1,8 @@
 // The operations on regions.
 
 ghost use Rattle.std.specs.Prelude.{◌≡◌, ◌+◌, ◌≤◌, [], length, IfOk, Ok, Err, MatchResult};
-ghost use Rattle.edge_cut.specs.Cut.{cut_of, IsCutFault};
-ghost use Rattle.edge_cut.specs.Boxes.{Box, EdgesIn};
+ghost use Rattle.edge_cut.specs.Cut.{cut_of, IsCutFault, EdgesIn};
+ghost use Rattle.slice_base.specs.Boxes.{Box};
 ghost use Rattle.chain_core.specs.Counts.{points_in};
 ghost use Rattle.clip_core.specs.declared.keeping.Operation.TheVariants.{Unite, Subtract, Meet};
 ghost use Rattle.clip_core.specs.Outlines.{operand_edges};
@@ -71,7 +71,8 @@ fn clip(alloc: Global, operation: Operation, a: &Region, b: &Region) -> Result<R
 }
 
 /// The region bounded by the edges on whose two sides the rule of winding numbers differs, after four
-/// passes of cutting.
+/// passes of cutting. Its loops, in µm, have their inside at the left. `TooTangled` comes, as in the calls
+/// below, exactly where a list of edges before or after a pass has more than 100,000: it has `count`.
 pub fn clean(alloc: Global, region: &Region, rule: Rule) -> Result<Region, CutFault>
     ensures answer { MatchResult result (λ cleaned. clipped_of (operation_of rule) region.now [] ≡ Ok cleaned) (λ fault. IsClipFault (clipped_of (operation_of rule) region.now []) fault) }
     ensures few { IfOk result (λ cleaned. points_in cleaned ≤ 150000) }

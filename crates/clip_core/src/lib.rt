@@ -14,7 +14,10 @@ mod windings;
 pub use bundles::Bundle;
 pub use clipping::{Rule, clean, meet, subtract, unite};
 pub use keeping::Operation;
-pub use laws::{cancelled_goes, is_kept_exchanged, nothing_without_itself, sides_differ_by_net};
+pub use laws::{
+    bundles_are_in_order, cancelled_goes, is_kept_exchanged, net_is_up_less_down,
+    nothing_without_itself, sides_differ_by_net,
+};
 pub use windings::Windings;
 
 #[cfg(test)]

@@ -1,6 +1,6 @@
 use Rattle.std.proofs.Common.{List, sym, subst}
 use Rattle.edge_cut.specs.declared.passes.Marked.{Marked}
-use Rattle.edge_cut.specs.Boxes.{EdgesIn}
+use Rattle.edge_cut.specs.Cut.{EdgesIn}
 use Rattle.clip_core.proofs.clipping.clip.Goals as goal
 
 pub returns-clause-within : goal.returns-clause-within

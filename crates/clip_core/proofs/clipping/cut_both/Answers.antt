@@ -1,6 +1,6 @@
 use Rattle.std.proofs.Common.{◌≡◌, List, ◌∙◌, sym, subst}
 use Rattle.edge_cut.specs.declared.passes.Marked.{Marked}
-use Rattle.edge_cut.specs.Boxes.{EdgesIn}
+use Rattle.edge_cut.specs.Cut.{EdgesIn}
 use Rattle.clip_core.specs.Outlines.{operand_edges}
 use Rattle.clip_core.proofs.Answered.{if_ok}
 use Rattle.clip_core.proofs.Reach.{operand_edges-in}
