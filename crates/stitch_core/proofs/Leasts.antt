@@ -2,8 +2,9 @@
 use Rattle.std.proofs.Common.{ℕ, suc, zero, ◌≡◌, ◌<◌, ◌≤◌, ◌+◌, Bool, true, false, cond, List, [], ◌∷◌, ◌++◌, length, get_or, Option, Some, None, refl, arith, ap, sym, subst, ◌∙◌}
 use Rattle.std.specs.Prelude.{nat_le, nat_lt}
 use Rattle.slice_base.specs.declared.points.Pt.{Pt}
+use Rattle.slice_base.specs.Plane.{square_of}
 use Rattle.stitch_core.specs.declared.gaps.Gap.{Gap}
-use Rattle.stitch_core.specs.Gaps.{start_of, end_of, squared, gaps_to, gaps_from, reach, lesser, least, least_gap}
+use Rattle.stitch_core.specs.Gaps.{start_of, end_of, gaps_to, gaps_from, reach, lesser, least, least_gap}
 use Rattle.stitch_core.specs.Slots.{left, place, placed, IsGap, IsNotAfter, IsNext}
 
 -- the better of a gap and one more
@@ -71,7 +72,7 @@ better-none g k = by_test (nat_le g.squared reach) refl
 
 -- the width from a point to the start of the chain in a slot
 abbrev pub width : Pt → List (List Pt) → ℕ → ℕ
-width p slots k = squared p (start_of (get_or slots k []))
+width p slots k = square_of p (start_of (get_or slots k []))
 
 -- of the chains that are left and start within reach of a point, P holds of the slot
 abbrev pub Each : (ℕ → Type 0) → Pt → List (List Pt) → Type 0
@@ -82,21 +83,21 @@ row-none : (p : Pt) (i j : ℕ) (slots : List (List Pt)) → Each (λ k. ⊥) p 
 row-none p i j [] h = refl
 row-none p i j ([] ∷ slots) h = row-none p i j slots (λ k. h (suc k))
 row-none p i j ((q ∷ qs) ∷ slots) h =
-    let g : Gap = record { squared = squared p q; from = i; to = j } in
+    let g : Gap = record { squared = square_of p q; from = i; to = j } in
     ap (λ (o : Option Gap). least o (gaps_to p i (j + 1) (left slots))) (better-none g (h 0 (omega arith))) ∙ row-none p i (j + 1) slots (λ k. h (suc k))
 
 row-under : (d : ℕ) (p : Pt) (i j : ℕ) (slots : List (List Pt)) (best : Option Gap) → IsUnder d best → Each (λ k. d < width p slots k) p slots → IsUnder d (least best (gaps_to p i j (left slots)))
 row-under d p i j [] best u h = u
 row-under d p i j ([] ∷ slots) best u h = row-under d p i j slots best u (λ k. h (suc k))
 row-under d p i j ((q ∷ qs) ∷ slots) best u h =
-    let g : Gap = record { squared = squared p q; from = i; to = j } in
+    let g : Gap = record { squared = square_of p q; from = i; to = j } in
     row-under d p i (j + 1) slots (better best g) (under-better d best g u (h 0 (omega arith))) (λ k. h (suc k))
 
 row-stays : (f : Gap) (p : Pt) (i j : ℕ) (slots : List (List Pt)) → Each (λ k. f.squared ≤ width p slots k) p slots → least (Some f) (gaps_to p i j (left slots)) ≡ Some f
 row-stays f p i j [] h = refl
 row-stays f p i j ([] ∷ slots) h = row-stays f p i j slots (λ k. h (suc k))
 row-stays f p i j ((q ∷ qs) ∷ slots) h =
-    let g : Gap = record { squared = squared p q; from = i; to = j } in
+    let g : Gap = record { squared = square_of p q; from = i; to = j } in
     ap (λ (o : Option Gap). least o (gaps_to p i (j + 1) (left slots))) (better-stays f g (h 0 (omega arith))) ∙ row-stays f p i (j + 1) slots (λ k. h (suc k))
 
 abbrev pub some_gap : ℕ → ℕ → ℕ → Option Gap
@@ -115,15 +116,15 @@ row-finds d p i j ([] ∷ slots) zero best some is within u before all = let no 
 row-finds d p i j ([] ∷ slots) (suc t) best some is within u before all = row-finds d p i j slots t best some is within u (λ k l w b. before (suc k) l w (omega arith)) (λ k. all (suc k))
 row-finds d p i j ((q ∷ qs) ∷ slots) zero best some is within u before all =
     let g : Gap = record { squared = d; from = i; to = j } in
-    let first : better best (record { squared = squared p q; from = i; to = j }) ≡ Some g = subst (λ (n : ℕ). better best (record { squared = n; from = i; to = j }) ≡ Some g) is (better-takes best g u within) in
+    let first : better best (record { squared = square_of p q; from = i; to = j }) ≡ Some g = subst (λ (n : ℕ). better best (record { squared = n; from = i; to = j }) ≡ Some g) is (better-takes best g u within) in
     ap (λ (o : Option Gap). least o (gaps_to p i (j + 1) (left slots))) first ∙ (row-stays g p i (j + 1) slots (λ k. all (suc k)) ∙ same_to d i j (j + 0) (omega arith))
 row-finds d p i j ((q ∷ qs) ∷ slots) (suc t) best some is within u before all =
-    let g : Gap = record { squared = squared p q; from = i; to = j } in
+    let g : Gap = record { squared = square_of p q; from = i; to = j } in
     row-finds d p i (j + 1) slots t (better best g) some is within (under-better d best g u (λ w. before 0 (omega arith) w (omega arith))) (λ k l w b. before (suc k) l w (omega arith)) (λ k. all (suc k)) ∙ same_to d i (j + 1 + place slots t) (j + suc (place slots t)) (omega arith)
 
 -- the width from the end of the chain in one slot to the start of that in another
 abbrev pub between : List (List Pt) → List (List Pt) → ℕ → ℕ → ℕ
-between ends starts s t = squared (end_of (get_or ends s [])) (start_of (get_or starts t []))
+between ends starts s t = square_of (end_of (get_or ends s [])) (start_of (get_or starts t []))
 
 -- of all gaps within reach, P holds of the two slots
 abbrev pub EachPair : (ℕ → ℕ → Type 0) → List (List Pt) → List (List Pt) → Type 0

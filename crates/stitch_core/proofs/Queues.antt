@@ -9,8 +9,9 @@ use Rattle.std.proofs.lemmas.List.Sorted.{IsPermutation-map, Contains-permutatio
 use Rattle.std.proofs.lemmas.List.Elements.{All-from_recursion, All-weaker, All-map, All-contains, Contains-append_right}
 use Rattle.std.specs.declared.cmp.Reverse.{Reverse}
 use Rattle.slice_base.specs.declared.points.Pt.{Pt}
+use Rattle.slice_base.specs.Plane.{square_of}
 use Rattle.stitch_core.specs.declared.gaps.Gap.{Gap}
-use Rattle.stitch_core.specs.Gaps.{start_of, end_of, squared}
+use Rattle.stitch_core.specs.Gaps.{start_of, end_of}
 use Rattle.stitch_core.proofs.Slots.{within_slots}
 use Rattle.stitch_core.specs.Slots.{IsGap, IsNotAfter, IsNext, Covers}
 
@@ -39,7 +40,7 @@ popped-first x before old is bound =
 
 same_gap : (slots : List (List Pt)) (g h : Gap) → IsGap slots g → IsGap slots h → g.from ≡ h.from → g.to ≡ h.to → g ≡ h
 same_gap slots g h a b from to =
-    let wide : g.squared ≡ h.squared = a.wide ∙ (ap (λ (i : ℕ). squared (end_of (get_or slots i [])) (start_of (get_or slots g.to []))) from ∙ (ap (λ (j : ℕ). squared (end_of (get_or slots h.from [])) (start_of (get_or slots j []))) to ∙ sym b.wide)) in
+    let wide : g.squared ≡ h.squared = a.wide ∙ (ap (λ (i : ℕ). square_of (end_of (get_or slots i [])) (start_of (get_or slots g.to []))) from ∙ (ap (λ (j : ℕ). square_of (end_of (get_or slots h.from [])) (start_of (get_or slots j []))) to ∙ sym b.wide)) in
     ap (λ (n : ℕ). record { squared = n; from = g.from; to = g.to }) wide ∙ (ap (λ (n : ℕ). record { squared = h.squared; from = n; to = g.to }) from ∙ ap (λ (n : ℕ). record { squared = h.squared; from = h.from; to = n }) to)
 
 pub added-keeps : (x : Gap) (old new : List Gap) → IsPermutation (x ∷ old) new → (g : Gap) → Contains old g → Contains new g
