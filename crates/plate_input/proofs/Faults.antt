@@ -1,5 +1,5 @@
 -- A fault of pairs is that of one of them.
-use Rattle.std.proofs.Common.{ℕ, suc, ◌∙◌, ◌≡◌, ◌+◌, ◌<◌, ◌≤◌, Bool, true, false, cond, List, [], ◌∷◌, length, get_or, ◌⊎◌, inl, inr, Option, Some, None, Result, Err, arith, refl, sym, ap, subst}
+use Rattle.std.proofs.Common.{ℕ, suc, ◌∙◌, ◌≡◌, ◌+◌, ◌<◌, ◌≤◌, Bool, true, false, cond, List, [], ◌∷◌, length, get_or, Option, Some, None, Result, Err, arith, refl, sym, ap, subst}
 use Rattle.std.specs.Prelude.{ℤ, nat_lt, ◌≢◌, ◌↔◌}
 use Rattle.std.specs.Option.{option_or}
 use Rattle.std.proofs.lemmas.Option.{slice_get-get_or}
@@ -17,7 +17,6 @@ use Rattle.settings_core.specs.Reading.{setting_of, number_in, position_in, is_a
 use Rattle.settings_core.specs.Fault.{number_fault, word_fault, text_fault, value_fault, known_fault, pair_fault, first_fault}
 use Rattle.settings_core.specs.Value.{extruder_of}
 use Rattle.settings_core.specs.Resolve.{settings_of, meshes_from, extruder_count_of, first_unknown, fault_of}
-use Rattle.answers.specs.declared.refusal.Refusal.{Refusal}
 use Rattle.answers.specs.declared.refusal.Refusal.TheVariants as refusal
 use Rattle.plate_input.specs.Plate.{HasFaultyPair, SettingRefusal}
 
@@ -88,17 +87,15 @@ bad_value_below pairs es p e = let w : IsWithin 0 (length pairs) (Some (BadValue
 pub out_of_range_below : (pairs : List Pair) (es : List ℕ) (p : ℕ) → fault_of pairs es ≡ Some (OutOfRange p) → p < length pairs
 out_of_range_below pairs es p e = let w : IsWithin 0 (length pairs) (Some (OutOfRange p)) = subst (IsWithin 0 (length pairs)) e (within_pairs pairs es) in w.1
 
-faulty_pair : (pairs : List Pair) (es : List ℕ) (kind : ℕ → SettingFault) (p : ℕ) (pair : Pair) → fault_of pairs es ≡ Some (kind p) → p < length pairs → pair ≡ get_or pairs p pair → HasFaultyPair pairs es kind pair.scope pair.key
-faulty_pair pairs es kind p pair e lt is =
-    record { place = p; pair = pair; at_fault = e; stands = rw (slice_get-get_or pairs p pair lt) (ap Some (sym is)); its_scope = refl; its_key = refl }
+faulty_pair : (pairs : List Pair) (es : List ℕ) (kind : ℕ → SettingFault) (p : ℕ) (pair : Pair) (key : List ℕ) → fault_of pairs es ≡ Some (kind p) → p < length pairs → pair ≡ get_or pairs p pair → key ≡ pair.key → HasFaultyPair pairs es kind pair.scope key
+faulty_pair pairs es kind p pair key e lt is same =
+    record { place = p; pair = pair; at_fault = e; stands = rw (slice_get-get_or pairs p pair lt) (ap Some (sym is)); its_scope = refl; its_key = same }
 
-pub bad_value_refused : (pairs : List Pair) (es : List ℕ) (p : ℕ) (pair : Pair) (r : Refusal) → fault_of pairs es ≡ Some (BadValue p) → pair ≡ get_or pairs p pair → (r ≡ refusal.BadValue pair.scope pair.key) ⊎ (r ≡ refusal.NoMemory) → SettingRefusal r pairs es
-bad_value_refused pairs es p pair r e is (inl same) = rw same (faulty_pair pairs es BadValue p pair e (bad_value_below pairs es p e) is)
-bad_value_refused pairs es p pair r e is (inr short) = rw short tt
+pub bad_value_refused : (pairs : List Pair) (es : List ℕ) (p : ℕ) (pair : Pair) (key : List ℕ) → fault_of pairs es ≡ Some (BadValue p) → pair ≡ get_or pairs p pair → key ≡ pair.key → SettingRefusal (refusal.BadValue pair.scope key) pairs es
+bad_value_refused pairs es p pair key e is same = faulty_pair pairs es BadValue p pair key e (bad_value_below pairs es p e) is same
 
-pub out_of_range_refused : (pairs : List Pair) (es : List ℕ) (p : ℕ) (pair : Pair) (r : Refusal) → fault_of pairs es ≡ Some (OutOfRange p) → pair ≡ get_or pairs p pair → (r ≡ refusal.OutOfRange pair.scope pair.key) ⊎ (r ≡ refusal.NoMemory) → SettingRefusal r pairs es
-out_of_range_refused pairs es p pair r e is (inl same) = rw same (faulty_pair pairs es OutOfRange p pair e (out_of_range_below pairs es p e) is)
-out_of_range_refused pairs es p pair r e is (inr short) = rw short tt
+pub out_of_range_refused : (pairs : List Pair) (es : List ℕ) (p : ℕ) (pair : Pair) (key : List ℕ) → fault_of pairs es ≡ Some (OutOfRange p) → pair ≡ get_or pairs p pair → key ≡ pair.key → SettingRefusal (refusal.OutOfRange pair.scope key) pairs es
+out_of_range_refused pairs es p pair key e is same = faulty_pair pairs es OutOfRange p pair key e (out_of_range_below pairs es p e) is same
 
 -- what resolving says of a fault
 abbrev pub Resolved : List Pair → List ℕ → SettingFault → Type 0

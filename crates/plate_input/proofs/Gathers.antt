@@ -1,12 +1,12 @@
 -- Items that were taken one after another.
-use Rattle.std.proofs.Common.{ℕ, suc, ◌≡◌, ◌+◌, ◌<◌, ◌≤◌, List, [], ◌∷◌, ◌++◌, length, Option, Some, None, Result, Ok, Err, arith, refl, sym, ap, ◌∙◌, subst, append_assoc, length-append, add-one, get_or, drop}
+use Rattle.std.proofs.Common.{ℕ, suc, ◌≡◌, ◌+◌, ◌<◌, ◌≤◌, List, [], ◌∷◌, ◌++◌, length, inl, inr, Option, Some, None, Result, Ok, Err, arith, refl, sym, ap, ◌∙◌, subst, append_assoc, length-append, add-one, get_or, drop}
 use Rattle.std.proofs.Math.Seq.{drop-cons}
 use Rattle.std.proofs.lemmas.List.{drop_all}
 use Rattle.std.specs.List.{All}
 use Rattle.std.specs.Str.{IsUtf8}
 use Rattle.std.proofs.lemmas.List.{append-nil}
 use Rattle.std.proofs.lemmas.List.Elements.{All-push, All-nil, All-cons, All-head, All-tail}
-use Rattle.slice_base.specs.Causes.{Rose, counted}
+use Rattle.slice_base.specs.Causes.{counted, counted_by}
 use Rattle.settings_core.specs.declared.pairs.Pair.{Pair}
 use Rattle.settings_core.specs.File.{file_pairs}
 use Rattle.outside.specs.Files.{IsFile, IsTooLong}
@@ -18,9 +18,9 @@ use Rattle.answers.specs.declared.refusal.Refusal.{Refusal}
 use Rattle.answers.specs.declared.refusal.Refusal.TheVariants as refusal
 use Rattle.plate_input.specs.declared.files.TheConstants.{MOST_BYTES}
 use Rattle.plate_input.specs.declared.gathered.Gathered.{Gathered}
-use Rattle.plate_input.specs.Reading.{AreFiles, FirstTooLong, in_front, file_in_front, pairs_of, mesh_bytes}
-use Rattle.plate_input.specs.Answers.{counted_by, FailedRead, ReadsFew}
-use Rattle.plate_input.specs.Gathering.{ReadOnce, IsRead, FailedOnce, FileRefusal, first_name, with_pairs, with_settings, with_mesh, Took, Touched, Refused, outcome, HasGathered, GatherRefusal}
+use Rattle.plate_input.specs.Reading.{AreFiles, in_front, file_in_front, pairs_of, mesh_bytes}
+use Rattle.plate_input.specs.Answers.{EndsAt, ReadsSome, ReadsAll, ReadsBefore, refused_faults}
+use Rattle.plate_input.specs.Gathering.{IsRead, ReadsOneAtMost, FileRefusal, first_name, with_pairs, with_settings, with_mesh, Took, Refused, outcome, HasGathered, GatherRefusal}
 
 abbrev Names : Type 0
 Names = List (List ℕ)
@@ -64,8 +64,7 @@ pub record ReadSoFar (items : List Item) (left : Names) (before now : Store) (fr
   pub are : AreFiles before.files front contents
   pub files : now.files ≡ before.files
   pub reads : now.reads ≡ counted_by (length front) before.reads
-  pub at_most : now.reads ≤ before.reads + length front
-  pub later : before.faults ≤ now.faults
+  pub faults : now.faults ≡ before.faults
 
 pub record Gathering (items rest : List Item) (before now : Store) (g : Gathered) : Type 0 where
   pub front : Names
@@ -83,7 +82,7 @@ kept_begun items = record {
 }
 
 read_begun : (items : List Item) (s : Store) → ReadSoFar items (item_names items) s s [] []
-read_begun items s = record { names = refl; are = tt; files = refl; reads = refl; at_most = omega arith; later = omega arith }
+read_begun items s = record { names = refl; are = tt; files = refl; reads = refl; faults = refl }
 
 begun : (items : List Item) (s : Store) → Gathering items items s s (record { pairs = []; not_json = None; extruders = []; meshes = [] })
 begun items s = record { front = []; contents = []; read = read_begun items s; kept = kept_begun items }
@@ -137,126 +136,95 @@ length_more : (names : Names) (name : List ℕ) → length (names ++ name ∷ []
 length_more [] name = refl
 length_more (n ∷ ns) name = ap suc (length_more ns name)
 
-counted-le : (n : ℕ) → counted n ≤ n + 1
-counted-le n = omega arith
-
-read_more : (items : List Item) (left : Names) (before now next : Store) (front contents : Names) (name bytes : List ℕ) → ReadSoFar items (name ∷ left) before now front contents → IsRead name now bytes → ReadOnce now next → ReadSoFar items left before next (front ++ name ∷ []) (contents ++ bytes ∷ [])
-read_more items left before now next front contents name bytes r f o =
+read_more : (items : List Item) (left : Names) (before now next : Store) (front contents : Names) (name bytes : List ℕ) → ReadSoFar items (name ∷ left) before now front contents → IsRead name now next bytes → next.files ≡ now.files → next.faults ≡ now.faults → ReadSoFar items left before next (front ++ name ∷ []) (contents ++ bytes ∷ [])
+read_more items left before now next front contents name bytes r f same quiet =
     let more : length (front ++ name ∷ []) ≡ suc (length front) = length_more front name in
-    let small : next.reads ≤ now.reads + 1 = rw o.reads (counted-le now.reads) in
     record {
       names = r.names ∙ sym (append_assoc front (name ∷ []) left);
       are = are_more before.files front contents name bytes r.are (subst (λ x. IsFile x name bytes) r.files f.file) f.short;
-      files = o.files ∙ r.files;
-      reads = o.reads ∙ (ap counted r.reads ∙ ap (λ k. counted_by k before.reads) (sym more));
-      at_most = omega (arith, small, r.at_most, length-append front (name ∷ []));
-      later = omega (arith, r.later, o.later);
+      files = same ∙ r.files;
+      reads = f.reads ∙ (ap counted r.reads ∙ ap (λ k. counted_by k before.reads) (sym more));
+      faults = quiet ∙ r.faults;
     }
 
-pub goes_on : (items rest : List Item) (i : Item) (before now next : Store) (g g' : Gathered) → Gathering items (i ∷ rest) before now g → Took i g g' now next → Gathering items rest before next g'
-goes_on items rest (item.Pair p) before now next g g' h t = record {
+pub goes_on : (items rest : List Item) (i : Item) (before now next : Store) (g g' : Gathered) → Gathering items (i ∷ rest) before now g → Took i g g' now next → next.files ≡ now.files → next.faults ≡ now.faults → Gathering items rest before next g'
+goes_on items rest (item.Pair p) before now next g g' h t same quiet = record {
   front = h.front;
   contents = h.contents;
   read = subst (λ s. ReadSoFar items (item_names rest) before s h.front h.contents) (sym t.0) h.read;
   kept = subst (KeptSoFar items rest h.contents) (sym t.1) (kept_pair items rest h.contents g p h.kept);
 }
-goes_on items rest (item.Settings name) before now next g g' h t = record {
+goes_on items rest (item.Settings name) before now next g g' h t same quiet = record {
   front = h.front ++ name ∷ [];
   contents = h.contents ++ t.bytes ∷ [];
-  read = read_more items (item_names rest) before now next h.front h.contents name t.bytes h.read t.read t.once;
+  read = read_more items (item_names rest) before now next h.front h.contents name t.bytes h.read t.read same quiet;
   kept = subst (KeptSoFar items rest (h.contents ++ t.bytes ∷ [])) (sym t.kept) (kept_settings items rest h.contents g name t.bytes (file_pairs t.bytes) refl h.kept);
 }
-goes_on items rest (item.Mesh name e) before now next g g' h t = record {
+goes_on items rest (item.Mesh name e) before now next g g' h t same quiet = record {
   front = h.front ++ name ∷ [];
   contents = h.contents ++ t.bytes ∷ [];
-  read = read_more items (item_names rest) before now next h.front h.contents name t.bytes h.read t.read t.once;
+  read = read_more items (item_names rest) before now next h.front h.contents name t.bytes h.read t.read same quiet;
   kept = subst (KeptSoFar items rest (h.contents ++ t.bytes ∷ [])) (sym t.kept) (kept_mesh items rest h.contents g name t.bytes e t.read.short h.kept);
 }
 
--- the read of the next file is refused
-rose_since : (a b d : ℕ) → a ≤ b → Rose b d → Rose a d
-rose_since a b d le r = omega arith
-
-failed_read : (items : List Item) (left : Names) (before now next : Store) (front contents : Names) (name n : List ℕ) → ReadSoFar items (name ∷ left) before now front contents → n ≡ name → FailedOnce name now next → ReadOnce now next → FailedRead items n before next
-failed_read items left before now next front contents name n r e f o = record {
+-- reading ends at the next file
+ends_at : (items : List Item) (left : Names) (before now next : Store) (front contents : Names) (name n : List ℕ) → ReadSoFar items (name ∷ left) before now front contents → n ≡ name → next.reads ≡ counted now.reads → EndsAt items n before next
+ends_at items left before now next front contents name n r e once = record {
   front = front;
   rest = left;
   contents = contents;
   names = r.names ∙ ap (λ (x : List ℕ). front ++ x ∷ left) (sym e);
   are = r.are;
-  last_failed = f.last_failed ∙ ap Some (sym e);
-  reads = o.reads ∙ ap counted r.reads;
-  cause = rose_since before.faults now.faults next.faults r.later f.cause;
+  reads = once ∙ ap counted r.reads;
 }
 
-too_long_file : (items : List Item) (left : Names) (before now : Store) (front contents : Names) (name n : List ℕ) → ReadSoFar items (name ∷ left) before now front contents → n ≡ name → IsTooLong now.files name MOST_BYTES → FirstTooLong items before.files n
-too_long_file items left before now front contents name n r e t = record {
-  front = front;
-  rest = left;
-  contents = contents;
-  names = r.names ∙ ap (λ (x : List ℕ). front ++ x ∷ left) (sym e);
-  are = r.are;
-  too_long = let t' : IsTooLong before.files name MOST_BYTES = subst (λ x. IsTooLong x name MOST_BYTES) r.files t in subst (λ x. IsTooLong before.files x MOST_BYTES) (sym e) t';
-}
+still_too_long : (before now : Store) (name n : List ℕ) → now.files ≡ before.files → n ≡ name → IsTooLong now.files name MOST_BYTES → IsTooLong before.files n MOST_BYTES
+still_too_long before now name n same e t =
+    let t' : IsTooLong before.files name MOST_BYTES = subst (λ x. IsTooLong x name MOST_BYTES) same t in
+    subst (λ x. IsTooLong before.files x MOST_BYTES) (sym e) t'
 
-file_refused : (items : List Item) (left : Names) (before now next : Store) (front contents : Names) (name : List ℕ) (r : Refusal) → ReadSoFar items (name ∷ left) before now front contents → FileRefusal r name now next → ReadOnce now next → GatherRefusal r items before next
-file_refused items left before now next front contents name (refusal.ReadFault n) s h o = failed_read items left before now next front contents name n s h.0 h.1 o
-file_refused items left before now next front contents name (refusal.TooLong n) s h o = too_long_file items left before now front contents name n s h.0 h.1
-file_refused items left before now next front contents name refusal.NoMemory s h o = tt
-file_refused items left before now next front contents name (refusal.BadWord n) s h o = absurd h
-file_refused items left before now next front contents name refusal.NoInput s h o = absurd h
-file_refused items left before now next front contents name refusal.NoOutput s h o = absurd h
-file_refused items left before now next front contents name (refusal.NotBuilt n) s h o = absurd h
-file_refused items left before now next front contents name (refusal.NotJson n) s h o = absurd h
-file_refused items left before now next front contents name (refusal.BadValue scope key) s h o = absurd h
-file_refused items left before now next front contents name (refusal.OutOfRange scope key) s h o = absurd h
-file_refused items left before now next front contents name (refusal.UnknownExtruder m) s h o = absurd h
-file_refused items left before now next front contents name (refusal.BadStl m n) s h o = absurd h
-file_refused items left before now next front contents name (refusal.NoTriangles m) s h o = absurd h
-file_refused items left before now next front contents name (refusal.TooManyTriangles m n) s h o = absurd h
-file_refused items left before now next front contents name (refusal.OutsideVolume m n) s h o = absurd h
-file_refused items left before now next front contents name refusal.NoLayers s h o = absurd h
-file_refused items left before now next front contents name (refusal.TooManyLayers n) s h o = absurd h
-file_refused items left before now next front contents name refusal.WriteFault s h o = absurd h
-file_refused items left before now next front contents name refusal.ConsoleFault s h o = absurd h
-
-pub refused : (items rest : List Item) (i : Item) (before now next : Store) (g : Gathered) (r : Refusal) → Gathering items (i ∷ rest) before now g → Refused r i now next → Touched i now next → GatherRefusal r items before next
-refused items rest (item.Pair p) before now next g r h e t = subst (λ x. GatherRefusal x items before next) (sym e) tt
-refused items rest (item.Settings name) before now next g r h e t = file_refused items (item_names rest) before now next h.front h.contents name r h.read e t
-refused items rest (item.Mesh name n) before now next g r h e t = file_refused items (item_names rest) before now next h.front h.contents name r h.read e t
-
-few_read : (items : List Item) (left : Names) (before now : Store) (front contents : Names) → ReadSoFar items left before now front contents → ReadsFew items before now
-few_read items left before now front contents r =
+-- some of the files were read
+some_read : (items : List Item) (left : Names) (before now : Store) (front contents : Names) → ReadSoFar items left before now front contents → ReadsSome items before now
+some_read items left before now front contents r =
     let all : length (item_names items) ≡ length (front ++ left) = ap length r.names in
-    record {
-      files = r.files;
-      count = length front;
-      few = omega (arith, all, length-append front left);
-      reads = r.reads;
-      at_most = omega (arith, all, length-append front left, r.at_most);
-      later = r.later;
-    }
+    record { count = length front; few = omega (arith, all, length-append front left); reads = r.reads }
 
-few_once : (items : List Item) (left : Names) (before now next : Store) (front contents : Names) (name : List ℕ) → ReadSoFar items (name ∷ left) before now front contents → ReadOnce now next → ReadsFew items before next
-few_once items left before now next front contents name r o =
+some_more : (items : List Item) (left : Names) (before now next : Store) (front contents : Names) (name : List ℕ) → ReadSoFar items (name ∷ left) before now front contents → ReadsOneAtMost now next → ReadsSome items before next
+some_more items left before now next front contents name r (inl none) =
     let all : length (item_names items) ≡ length (front ++ name ∷ left) = ap length r.names in
-    let small : next.reads ≤ now.reads + 1 = rw o.reads (counted-le now.reads) in
-    record {
-      files = o.files ∙ r.files;
-      count = suc (length front);
-      few = omega (arith, all, length-append front (name ∷ left));
-      reads = o.reads ∙ ap counted r.reads;
-      at_most = omega (arith, all, length-append front (name ∷ left), r.at_most, small);
-      later = omega (arith, r.later, o.later);
-    }
+    record { count = length front; few = omega (arith, all, length-append front (name ∷ left)); reads = none ∙ r.reads }
+some_more items left before now next front contents name r (inr once) =
+    let all : length (item_names items) ≡ length (front ++ name ∷ left) = ap length r.names in
+    record { count = suc (length front); few = omega (arith, all, length-append front (name ∷ left)); reads = once ∙ ap counted r.reads }
 
-pub few_touched : (items rest : List Item) (i : Item) (before now next : Store) (g : Gathered) → Gathering items (i ∷ rest) before now g → Touched i now next → ReadsFew items before next
-few_touched items rest (item.Pair p) before now next g h t = subst (λ s. ReadsFew items before s) (sym t) (few_read items (item_names rest) before now h.front h.contents h.read)
-few_touched items rest (item.Settings name) before now next g h t = few_once items (item_names rest) before now next h.front h.contents name h.read t
-few_touched items rest (item.Mesh name n) before now next g h t = few_once items (item_names rest) before now next h.front h.contents name h.read t
+file_refused : (items : List Item) (left : Names) (before now next : Store) (front contents : Names) (name : List ℕ) (r : Refusal) → ReadSoFar items (name ∷ left) before now front contents → FileRefusal r name now next → next.faults ≡ refused_faults r before.faults → GatherRefusal r items before next
+file_refused items left before now next front contents name (refusal.ReadFault n) s h f = record { ends = ends_at items left before now next front contents name n s h.0 h.1.reads; last_failed = h.1.last_failed ∙ ap Some (sym h.0); cause = f }
+file_refused items left before now next front contents name (refusal.TooLong n) s h f = (ends_at items left before now next front contents name n s h.0 h.1.reads, still_too_long before now name n s.files h.0 h.1.too_long)
+file_refused items left before now next front contents name refusal.NoMemory s h f = some_more items left before now next front contents name s h
+file_refused items left before now next front contents name r s h f = absurd h
 
-pub few_at_end : (items : List Item) (before now : Store) (g : Gathered) → Gathering items [] before now g → ReadsFew items before now
-few_at_end items before now g h = few_read items [] before now h.front h.contents h.read
+pair_refused : (items : List Item) (left : Names) (before now next : Store) (front contents : Names) (r : Refusal) → ReadSoFar items left before now front contents → (r ≡ refusal.NoMemory) × (next ≡ now) → GatherRefusal r items before next
+pair_refused items left before now next front contents r s h =
+    let some : ReadsSome items before next = subst (ReadsSome items before) (sym h.1) (some_read items left before now front contents s) in
+    subst (λ x. GatherRefusal x items before next) (sym h.0) some
+
+-- the count of faults is that after the refusal
+pub faults_since : (items rest : List Item) (before now next : Store) (g : Gathered) (r : Refusal) → Gathering items rest before now g → next.faults ≡ refused_faults r now.faults → next.faults ≡ refused_faults r before.faults
+faults_since items rest before now next g r h f = f ∙ ap (refused_faults r) h.read.faults
+
+pub refused : (items rest : List Item) (i : Item) (before now next : Store) (g : Gathered) (r : Refusal) → Gathering items (i ∷ rest) before now g → Refused r i now next → next.faults ≡ refused_faults r now.faults → GatherRefusal r items before next
+refused items rest (item.Pair p) before now next g r h e f = pair_refused items (item_names rest) before now next h.front h.contents r h.read e
+refused items rest (item.Settings name) before now next g r h e f = file_refused items (item_names rest) before now next h.front h.contents name r h.read e (f ∙ ap (refused_faults r) h.read.faults)
+refused items rest (item.Mesh name n) before now next g r h e f = file_refused items (item_names rest) before now next h.front h.contents name r h.read e (f ∙ ap (refused_faults r) h.read.faults)
+
+pub reads_refused : (items : List Item) (before after : Store) (r : Refusal) → GatherRefusal r items before after → ReadsBefore r items before after
+reads_refused items before after (refusal.ReadFault name) h = h.ends
+reads_refused items before after (refusal.TooLong name) h = h.0
+reads_refused items before after refusal.NoMemory h = h
+reads_refused items before after r h = absurd h
+
+pub reads_all : (items : List Item) (before now : Store) (g : Gathered) → Gathering items [] before now g → ReadsAll items before now
+reads_all items before now g h = h.read.reads ∙ ap (λ ns. counted_by (length ns) before.reads) (sym (h.read.names ∙ append-nil h.front))
 
 pub ended : (items : List Item) (before now : Store) (g : Gathered) → Gathering items [] before now g → HasGathered items before.files g
 ended items before now g h = record {
@@ -289,5 +257,5 @@ gathering_at items i x before now g lt is h = subst (λ rest. Gathering items re
 pub utf8_at : (items : List Item) (i : ℕ) (x : Item) → i < length items → x ≡ get_or items i x → All IsUtf8 (item_names (drop i items)) → All IsUtf8 (item_names (x ∷ drop (i + 1) items))
 utf8_at items i x lt is h = subst (λ rest. All IsUtf8 (item_names rest)) (rest_at items i x lt is) h
 
-pub ended_at : (items : List Item) (i : ℕ) (before now : Store) (g : Gathered) → length items ≤ i → Gathering items (drop i items) before now g → HasGathered items before.files g
-ended_at items i before now g le h = ended items before now g (subst (λ rest. Gathering items rest before now g) (drop_all i items le) h)
+pub ends_here : (items : List Item) (i : ℕ) (before now : Store) (g : Gathered) → length items ≤ i → Gathering items (drop i items) before now g → Gathering items [] before now g
+ends_here items i before now g le h = subst (λ rest. Gathering items rest before now g) (drop_all i items le) h

@@ -5,3 +5,4 @@ pub mod Rows
 pub mod Gathers
 pub mod Stages
 pub mod Told
+pub mod Once

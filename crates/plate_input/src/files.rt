@@ -1,8 +1,9 @@
 // Whole files, read by name.
 
-ghost use Rattle.std.specs.Prelude.{◌≡◌, ◌⊎◌, IfOk, IfErr};
+ghost use Rattle.std.specs.Prelude.{◌≡◌, IfOk, IfErr, MatchResult};
 ghost use Rattle.std.specs.Str.{IsUtf8};
-ghost use Rattle.plate_input.specs.Gathering.{ReadOnce, IsRead, FileRefusal};
+ghost use Rattle.plate_input.specs.Answers.{faults_after_reads};
+ghost use Rattle.plate_input.specs.Gathering.{IsRead, FileRefusal};
 
 use answers::Refusal;
 use outside::{ReadNo, Shelf};
@@ -12,21 +13,13 @@ use std::alloc::Global;
 /// The longest file, in bytes.
 pub const MOST_BYTES: usize = 268_435_456;
 
-fn failed(alloc: Global, name: &Text) -> Refusal
-    ensures { (result ≡ Refusal.ReadFault name.now) ⊎ (result ≡ Refusal.NoMemory) }
+/// A copy of a text.
+pub(crate) fn copied_text(alloc: Global, text: &Text) -> Result<Text, Refusal>
+    ensures { MatchResult result (λ copy. copy ≡ text.now) (λ r. r ≡ Refusal.NoMemory) }
 {
-    match name.copy(alloc) {
-        Ok(name) => Refusal::ReadFault { name },
-        Err(_) => Refusal::NoMemory,
-    }
-}
-
-fn too_long(alloc: Global, name: &Text) -> Refusal
-    ensures { (result ≡ Refusal.TooLong name.now) ⊎ (result ≡ Refusal.NoMemory) }
-{
-    match name.copy(alloc) {
-        Ok(name) => Refusal::TooLong { name },
-        Err(_) => Refusal::NoMemory,
+    match text.copy(alloc) {
+        Ok(copy) => Ok(copy),
+        Err(_) => Err(Refusal::NoMemory),
     }
 }
 
@@ -37,17 +30,20 @@ pub(crate) fn read_named<Sh: Shelf>(
     shelf: &mut Sh,
 ) -> Result<Text, Refusal>
     requires { IsUtf8 name.now }
-    ensures read { IfOk result (IsRead name.now (Sh.store shelf.old)) }
+    ensures read { IfOk result (IsRead name.now (Sh.store shelf.old) (Sh.store shelf.new)) }
     ensures refused { IfErr result (λ r. FileRefusal r name.now (Sh.store shelf.old) (Sh.store shelf.new)) }
-    ensures once { ReadOnce (Sh.store shelf.old) (Sh.store shelf.new) }
+    ensures files { (Sh.store shelf.new).files ≡ (Sh.store shelf.old).files }
+    ensures faults { (Sh.store shelf.new).faults ≡ faults_after_reads result (Sh.store shelf.old).faults }
 {
     let Some(word) = name.as_str() else {
         unreachable!()
     };
+    // Taken before the read, so that no answer to it waits for memory.
+    let named = copied_text(alloc, name)?;
     match shelf.read(alloc, word, MOST_BYTES) {
         Ok(bytes) => Ok(Text::from_vec(bytes)),
-        Err(ReadNo::Failed) => Err(failed(alloc, name)),
-        Err(ReadNo::TooLong) => Err(too_long(alloc, name)),
+        Err(ReadNo::Failed) => Err(Refusal::ReadFault { name: named }),
+        Err(ReadNo::TooLong) => Err(Refusal::TooLong { name: named }),
         Err(ReadNo::NoMemory) => Err(Refusal::NoMemory),
     }
 }

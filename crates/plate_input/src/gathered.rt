@@ -5,8 +5,8 @@ ghost use Rattle.std.specs.List.{All};
 ghost use Rattle.std.specs.Str.{IsUtf8};
 ghost use Rattle.settings_core.specs.File.{file_pairs};
 ghost use Rattle.cli_words.specs.Command.{item_names};
-ghost use Rattle.plate_input.specs.Gathering.{with_pairs, with_settings, with_mesh, Took, Touched, Refused, HasGathered, GatherRefusal};
-ghost use Rattle.plate_input.specs.Answers.{ReadsFew};
+ghost use Rattle.plate_input.specs.Gathering.{with_pairs, with_settings, with_mesh, Took, Refused, HasGathered, GatherRefusal};
+ghost use Rattle.plate_input.specs.Answers.{faults_after_reads, ReadsFiles};
 
 use crate::files::read_named;
 use answers::Refusal;
@@ -38,7 +38,7 @@ fn copied_value(alloc: Global, value: &Given) -> Result<Given, NoMemory>
     }
 }
 
-fn copied(alloc: Global, pair: &Pair) -> Result<Pair, NoMemory>
+fn copied_pair(alloc: Global, pair: &Pair) -> Result<Pair, NoMemory>
     ensures { IfOk result (λ p. p ≡ pair.now) }
 {
     Ok(Pair {
@@ -52,7 +52,7 @@ impl Gathered {
     fn take_pair(&mut self, alloc: Global, pair: &Pair) -> Result<(), NoMemory>
         ensures { OnOk result (self.new ≡ with_pairs (pair.now ∷ []) self.old) }
     {
-        self.pairs.push(copied(alloc, pair)?)
+        self.pairs.push(copied_pair(alloc, pair)?)
     }
 
     fn take_pairs(&mut self, pairs: Items<Pair>) -> Result<(), NoMemory>
@@ -102,7 +102,8 @@ fn take<Sh: Shelf>(
     requires { All IsUtf8 (item_names (item.now ∷ [])) }
     ensures took { OnOk result (Took item.now gathered.old gathered.new (Sh.store shelf.old) (Sh.store shelf.new)) }
     ensures refused { IfErr result (λ r. Refused r item.now (Sh.store shelf.old) (Sh.store shelf.new)) }
-    ensures touched { Touched item.now (Sh.store shelf.old) (Sh.store shelf.new) }
+    ensures files { (Sh.store shelf.new).files ≡ (Sh.store shelf.old).files }
+    ensures faults { (Sh.store shelf.new).faults ≡ faults_after_reads result (Sh.store shelf.old).faults }
 {
     match item {
         Item::Pair(pair) => match gathered.take_pair(alloc, pair) {
@@ -135,7 +136,9 @@ pub(crate) fn gather<Sh: Shelf>(
     requires { All IsUtf8 (item_names items.now) }
     ensures gathered { IfOk result (HasGathered items.now (Sh.store shelf.old).files) }
     ensures refused { IfErr result (λ r. GatherRefusal r items.now (Sh.store shelf.old) (Sh.store shelf.new)) }
-    ensures reads { ReadsFew items.now (Sh.store shelf.old) (Sh.store shelf.new) }
+    ensures reads { ReadsFiles result items.now (Sh.store shelf.old) (Sh.store shelf.new) }
+    ensures files { (Sh.store shelf.new).files ≡ (Sh.store shelf.old).files }
+    ensures faults { (Sh.store shelf.new).faults ≡ faults_after_reads result (Sh.store shelf.old).faults }
 {
     let mut gathered = Gathered {
         pairs: Items::new(alloc),

@@ -4,6 +4,7 @@
 
 mod files;
 mod gathered;
+mod laws;
 mod meshes;
 mod plates;
 mod reading;
@@ -12,5 +13,6 @@ mod settled;
 mod tests;
 
 pub use files::MOST_BYTES;
+pub use laws::one_plate;
 pub use plates::Plate;
 pub use reading::read_plate;

@@ -1,18 +1,18 @@
 // Reads what a task asks to slice.
 
-ghost use Rattle.std.specs.Prelude.{◌≡◌, ◌<◌, ◌⊎◌, ℕ, List, length, Some, Result, Err, IfOk};
+ghost use Rattle.std.specs.Prelude.{◌≡◌, ◌<◌, ℕ, List, length, Some, Result, IfOk};
 ghost use Rattle.std.specs.List.{All};
 ghost use Rattle.std.specs.Str.{IsUtf8};
-ghost use Rattle.slice_base.specs.Causes.{Rose};
 ghost use Rattle.settings_core.specs.Valid.{IsValid};
 ghost use Rattle.cli_words.specs.Command.{IsTask, item_names};
 ghost use Rattle.answers.specs.declared.refusal.Refusal.{Refusal};
 ghost use Rattle.plate_input.specs.declared.plates.Plate.{Plate};
 ghost use Rattle.plate_input.specs.Meshes.{LiesInside};
 ghost use Rattle.plate_input.specs.Plate.{PlateGives};
-ghost use Rattle.plate_input.specs.Answers.{ReadsFew, SaysPlate};
+ghost use Rattle.plate_input.specs.Answers.{ReadsFiles, SaysPlate, IsUnlessFailed, faults_after_reads};
 
 use crate::gathered::gather;
+use crate::laws::one_plate;
 use crate::plates::Plate;
 use crate::settled::finish;
 use answers::Refusal;
@@ -24,23 +24,26 @@ use std::alloc::Global;
 ///
 /// All files are read, in the order of the words, before any fault of their content is told. Then come the
 /// settings files, the settings, and the meshes one by one. A fault of the shelf or want of memory may
-/// come in place of any other answer; the files of the shelf stay as they are.
+/// come in place of any other answer. No file behind one that failed or is too long is read, and the
+/// files of the shelf stay as they are. A read that failed is always told as `ReadFault`.
 pub fn read_plate<Sh: Shelf>(alloc: Global, task: &Task, shelf: &mut Sh) -> Result<Plate, Refusal>
     requires task { IsTask task.now }
     requires utf8 { All IsUtf8 (item_names task.now.items) }
     ensures says { SaysPlate result task.now.items (Sh.store shelf.old) (Sh.store shelf.new) }
 
-    // Told files define one thing at most, and it is the answer unless the shelf failed or memory ran out.
+    // What told files define is the answer, unless a read failed or memory ran out.
     ensures one { (files : List (List ℕ × List ℕ)) (a : Result Plate Refusal) → (Sh.store shelf.old).files ≡ Some files
-        → PlateGives task.now.items (Some files) a → ¬ (Rose (Sh.store shelf.old).faults (Sh.store shelf.new).faults)
-        → (result ≡ a) ⊎ (result ≡ Err Refusal.NoMemory) }
+        → PlateGives task.now.items (Some files) a → IsUnlessFailed a result }
 
-    ensures reads { ReadsFew task.now.items (Sh.store shelf.old) (Sh.store shelf.new) }
+    ensures reads { ReadsFiles result task.now.items (Sh.store shelf.old) (Sh.store shelf.new) }
+    ensures files { (Sh.store shelf.new).files ≡ (Sh.store shelf.old).files }
+    ensures faults { (Sh.store shelf.new).faults ≡ faults_after_reads result (Sh.store shelf.old).faults }
     ensures valid { IfOk result (λ p. IsValid p.settings) }
     ensures meshes { IfOk result (λ p. length p.meshes ≡ length p.settings.meshes) }
     ensures some { IfOk result (λ p. 0 < length p.meshes) }
     ensures inside { IfOk result (λ p. All (LiesInside p.settings) p.meshes) }
 {
+    one_plate();
     let gathered = gather(alloc, task.items.items(), shelf)?;
     finish(alloc, gathered)
 }

@@ -1,6 +1,6 @@
 // What pairs and meshes give: settings, and meshes in place.
 
-ghost use Rattle.std.specs.Prelude.{◌≡◌, ◌≤◌, ◌<◌, ◌⊎◌, length, slice_index_or, None, IfOk, IfErr};
+ghost use Rattle.std.specs.Prelude.{◌≡◌, ◌≤◌, ◌<◌, length, slice_index_or, None, IfOk, IfErr};
 ghost use Rattle.std.specs.List.{All};
 ghost use Rattle.settings_core.specs.Resolve.{settings_of, fault_of};
 ghost use Rattle.settings_core.specs.Valid.{IsValid};
@@ -8,7 +8,7 @@ ghost use Rattle.plate_input.specs.Meshes.{LiesInside};
 ghost use Rattle.plate_input.specs.Plate.{SettingRefusal, SettledGives, KeptGives};
 ghost use Rattle.plate_input.specs.Answers.{Answers};
 
-use crate::files::MOST_BYTES;
+use crate::files::{MOST_BYTES, copied_text};
 use crate::gathered::Gathered;
 use crate::meshes::place_meshes;
 use crate::plates::Plate;
@@ -16,30 +16,6 @@ use answers::Refusal;
 use settings_core::{Pair, SettingFault, Settings, resolve};
 use slice_base::{Items, Text};
 use std::alloc::Global;
-
-fn bad_value(alloc: Global, pair: &Pair) -> Refusal
-    ensures { (result ≡ Refusal.BadValue pair.now.scope pair.now.key) ⊎ (result ≡ Refusal.NoMemory) }
-{
-    match pair.key.copy(alloc) {
-        Ok(key) => Refusal::BadValue {
-            scope: pair.scope,
-            key,
-        },
-        Err(_) => Refusal::NoMemory,
-    }
-}
-
-fn out_of_range(alloc: Global, pair: &Pair) -> Refusal
-    ensures { (result ≡ Refusal.OutOfRange pair.now.scope pair.now.key) ⊎ (result ≡ Refusal.NoMemory) }
-{
-    match pair.key.copy(alloc) {
-        Ok(key) => Refusal::OutOfRange {
-            scope: pair.scope,
-            key,
-        },
-        Err(_) => Refusal::NoMemory,
-    }
-}
 
 fn pair_at(pairs: &[Pair], place: u64) -> &Pair
     requires { place < length pairs.now }
@@ -62,11 +38,15 @@ fn settle(alloc: Global, pairs: &[Pair], extruders: &[u8]) -> Result<Settings, R
         Ok(settings) => Ok(settings),
         Err(SettingFault::BadValue { pair }) => {
             let misread = pair_at(pairs, pair);
-            Err(bad_value(alloc, misread))
+            let key = copied_text(alloc, &misread.key)?;
+            let scope = misread.scope;
+            Err(Refusal::BadValue { scope, key })
         }
         Err(SettingFault::OutOfRange { pair }) => {
             let outlier = pair_at(pairs, pair);
-            Err(out_of_range(alloc, outlier))
+            let key = copied_text(alloc, &outlier.key)?;
+            let scope = outlier.scope;
+            Err(Refusal::OutOfRange { scope, key })
         }
         Err(SettingFault::UnknownExtruder { mesh }) => Err(Refusal::UnknownExtruder { mesh }),
         Err(SettingFault::NoMemory) => Err(Refusal::NoMemory),

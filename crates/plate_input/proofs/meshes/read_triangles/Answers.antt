@@ -4,22 +4,18 @@ use Rattle.plate_input.proofs.meshes.read_triangles.Goals as goal
 
 pub returns-then-is_empty-clause-gives : goal.returns-then-is_empty-clause-gives
 returns-then-is_empty-clause-gives c =
-    let v = c.in-Ok.read in
     let none : length c.in-Ok.read.items ≡ 0 = subst (λ xs. length xs ≡ 0) c.of-tris.ensures (is_zero (length c.of-tris.result) c.is_empty.result c.is_empty.ensures c.if-is_empty.true) in
-    answer_empty c.args.mesh c.args.bytes.now v (record { gives = c.in-Ok.ensures.gives; bad_line = c.in-Ok.ensures.bad_line; too_many = c.in-Ok.ensures.too_many }) c.in-Ok.ensures.mesh none
+    answer_empty c.args.mesh c.args.bytes.now c.in-Ok.read.items c.in-Ok.ensures.mesh none
 
 pub returns-else-is_empty-clause-gives : goal.returns-else-is_empty-clause-gives
 returns-else-is_empty-clause-gives c =
-    let v = c.in-Ok.read in
     let some : 0 < length c.in-Ok.read.items = subst (λ xs. 0 < length xs) c.of-tris.ensures (not_zero (length c.of-tris.result) c.is_empty.result c.is_empty.ensures c.if-is_empty.false) in
-    answer_ok c.args.mesh c.args.bytes.now v c.of-tris.result (record { gives = c.in-Ok.ensures.gives; bad_line = c.in-Ok.ensures.bad_line; too_many = c.in-Ok.ensures.too_many }) c.in-Ok.ensures.mesh c.of-tris.ensures some
+    answer_ok c.args.mesh c.args.bytes.now c.in-Ok.read c.of-tris.result c.in-Ok.ensures.mesh c.of-tris.ensures some
 
 pub returns-in-Err-BadLine-clause-gives : goal.returns-in-Err-BadLine-clause-gives
 returns-in-Err-BadLine-clause-gives c =
-    let h = c.in-Err-BadLine.ensures in
-    answer_bad c.args.mesh c.in-Err-BadLine.line c.args.bytes.now c.in-Err-BadLine.field-0 c.in-Err-BadLine.field-0-is (record { gives = h.gives; bad_line = h.bad_line; too_many = h.too_many })
+    answer_bad c.args.mesh c.in-Err-BadLine.line c.args.bytes.now c.in-Err-BadLine.field-0 c.in-Err-BadLine.field-0-is c.in-Err-BadLine.ensures.bad_line
 
 pub returns-in-Err-TooManyTriangles-clause-gives : goal.returns-in-Err-TooManyTriangles-clause-gives
 returns-in-Err-TooManyTriangles-clause-gives c =
-    let h = c.in-Err-TooManyTriangles.ensures in
-    answer_many c.args.mesh c.in-Err-TooManyTriangles.count c.args.bytes.now c.in-Err-TooManyTriangles.field-0 c.in-Err-TooManyTriangles.field-0-is (record { gives = h.gives; bad_line = h.bad_line; too_many = h.too_many })
+    answer_many c.args.mesh c.in-Err-TooManyTriangles.count c.args.bytes.now c.in-Err-TooManyTriangles.field-0 c.in-Err-TooManyTriangles.field-0-is c.in-Err-TooManyTriangles.ensures.too_many

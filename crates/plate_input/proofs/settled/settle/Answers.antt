@@ -13,19 +13,19 @@ pair_at-outlier-requires c =
     let es = c.args.extruders.now in
     out_of_range_below ps es c.in-Err-OutOfRange.pair (out_of_range_is ps es c.in-Err-OutOfRange.pair c.in-Err-OutOfRange.field-0 c.in-Err-OutOfRange.field-0-is c.in-Err-OutOfRange.ensures.fault)
 
-pub returns-in-Err-BadValue-clause-refused : goal.returns-in-Err-BadValue-clause-refused
-returns-in-Err-BadValue-clause-refused c =
+pub returns-in_ok-key-in-Err-BadValue-clause-refused : goal.returns-in_ok-key-in-Err-BadValue-clause-refused
+returns-in_ok-key-in-Err-BadValue-clause-refused c =
     let ps = c.args.pairs.now in
     let es = c.args.extruders.now in
-    bad_value_refused ps es c.in-Err-BadValue.pair c.pair_at-misread.result.now c.bad_value.result
-    (bad_value_is ps es c.in-Err-BadValue.pair c.in-Err-BadValue.field-0 c.in-Err-BadValue.field-0-is c.in-Err-BadValue.ensures.fault) c.pair_at-misread.ensures c.bad_value.ensures
+    bad_value_refused ps es c.in-Err-BadValue.pair c.pair_at-misread.result.now c.in_ok-key-in-Err-BadValue.key
+    (bad_value_is ps es c.in-Err-BadValue.pair c.in-Err-BadValue.field-0 c.in-Err-BadValue.field-0-is c.in-Err-BadValue.ensures.fault) c.pair_at-misread.ensures c.in_ok-key-in-Err-BadValue.ensures
 
-pub returns-in-Err-OutOfRange-clause-refused : goal.returns-in-Err-OutOfRange-clause-refused
-returns-in-Err-OutOfRange-clause-refused c =
+pub returns-in_ok-key-in-Err-OutOfRange-clause-refused : goal.returns-in_ok-key-in-Err-OutOfRange-clause-refused
+returns-in_ok-key-in-Err-OutOfRange-clause-refused c =
     let ps = c.args.pairs.now in
     let es = c.args.extruders.now in
-    out_of_range_refused ps es c.in-Err-OutOfRange.pair c.pair_at-outlier.result.now c.out_of_range.result
-    (out_of_range_is ps es c.in-Err-OutOfRange.pair c.in-Err-OutOfRange.field-0 c.in-Err-OutOfRange.field-0-is c.in-Err-OutOfRange.ensures.fault) c.pair_at-outlier.ensures c.out_of_range.ensures
+    out_of_range_refused ps es c.in-Err-OutOfRange.pair c.pair_at-outlier.result.now c.in_ok-key-in-Err-OutOfRange.key
+    (out_of_range_is ps es c.in-Err-OutOfRange.pair c.in-Err-OutOfRange.field-0 c.in-Err-OutOfRange.field-0-is c.in-Err-OutOfRange.ensures.fault) c.pair_at-outlier.ensures c.in_ok-key-in-Err-OutOfRange.ensures
 
 pub returns-in-Err-UnknownExtruder-clause-refused : goal.returns-in-Err-UnknownExtruder-clause-refused
 returns-in-Err-UnknownExtruder-clause-refused c =
