@@ -9,11 +9,13 @@ use Rattle.settings_core.specs.declared.resolved.Settings.{Settings}
 use Rattle.settings_core.specs.declared.pairs.Given.{Given}
 use Rattle.settings_core.specs.declared.pairs.Given.TheVariants.{Words, Other}
 use Rattle.settings_core.specs.declared.pairs.Pair.{Pair}
-use Rattle.settings_core.specs.declared.table.Setting.{Setting}
-use Rattle.settings_core.specs.declared.table.Kind.{Kind}
-use Rattle.settings_core.specs.declared.table.Kind.TheVariants.{Count, Position, Truth, Seam, Code}
-use Rattle.settings_core.specs.Table.{kind_of}
-use Rattle.settings_core.specs.Reading.{setting_of, number_in, position_in, is_allowed, is_position, truth_in, seam_in, is_short}
+use Rattle.settings_table.specs.declared.table.Setting.{Setting}
+use Rattle.settings_table.specs.declared.table.Kind.{Kind}
+use Rattle.settings_table.specs.declared.table.Kind.TheVariants.{Count, Position, Truth, Seam, Code}
+use Rattle.settings_table.specs.Table.{kind_of}
+use Rattle.settings_table.specs.Keys.{setting_of}
+use Rattle.settings_table.specs.Ranges.{number_in, is_allowed}
+use Rattle.settings_core.specs.Reading.{position_in, is_position, truth_in, seam_in, is_short}
 use Rattle.settings_core.specs.Fault.{number_fault, word_fault, text_fault, value_fault, known_fault, pair_fault, first_fault}
 use Rattle.settings_core.specs.Value.{extruder_of}
 use Rattle.settings_core.specs.Resolve.{settings_of, meshes_from, extruder_count_of, first_unknown, fault_of}
