@@ -1,5 +1,3 @@
-pub mod Puts
-pub mod Walks
 pub mod Texts
 pub mod Files
 pub mod Sections

@@ -32,18 +32,20 @@ abbrev pub dropped_at : ℤ → List (List Tri) → ℕ
 dropped_at z [] = 0
 dropped_at z (mesh ∷ meshes) = (stitched_at z mesh).dropped + dropped_at z meshes
 
--- the loops of layer k, and how many chains stay open in it
+-- the loops of layer k
 abbrev pub layer_of : Settings → List (List Tri) → ℕ → List (List Pt)
 layer_of s meshes k = loops_at (pos (plane_of s k)) meshes
 
+-- how many chains stay open in layer k
 abbrev pub dropped_in : Settings → List (List Tri) → ℕ → ℕ
 dropped_in s meshes k = dropped_at (pos (plane_of s k)) meshes
 
--- the layers below number n, and how many chains stay open in them
+-- the layers below number n
 abbrev pub first_layers : Settings → List (List Tri) → ℕ → List (List (List Pt))
 first_layers s meshes zero = []
 first_layers s meshes (suc k) = first_layers s meshes k ++ layer_of s meshes k ∷ []
 
+-- how many chains stay open in the layers below number n
 abbrev pub first_dropped : Settings → List (List Tri) → ℕ → ℕ
 first_dropped s meshes zero = 0
 first_dropped s meshes (suc k) = first_dropped s meshes k + dropped_in s meshes k

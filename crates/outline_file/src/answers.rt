@@ -8,8 +8,9 @@ use slice_base::{Items, Region};
 /// The most layers that a print may have.
 pub const MOST_LAYERS: u32 = 10_000;
 
-/// The outlines of a print: the loops of each layer from the bed up, in µm, and how many chains of all
-/// sections stayed open.
+/// The outlines of a print: the loops of each layer from the bed up, and how many chains of all sections
+/// stayed open. Points are in µm; a loop is closed, its last point isn't repeated, and of a mesh whose
+/// triangles face outward the inside lies at the left.
 #[derive(Drop)]
 pub struct Outlines {
     pub open: u64,

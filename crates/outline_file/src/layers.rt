@@ -1,11 +1,15 @@
 // The outlines of meshes.
 
-ghost use Rattle.std.specs.Prelude.{◌≡◌, ◌+◌, ◌*◌, ◌<◌, ◌≤◌, ◌^◌, ◌++◌, ◌⊎◌, ◌↔◌, ℕ, Err, length, map, fold, IfOk, OnOk, Result};
+ghost use Rattle.std.specs.Prelude.{◌≡◌, ◌+◌, ◌*◌, ◌<◌, ◌≤◌, ◌^◌, ◌++◌, ◌⊎◌, ◌↔◌, ℕ, List, Err, length, map, fold, IfOk, OnOk, Result};
 ghost use Rattle.std.specs.Int.{int_max};
 ghost use Rattle.std.specs.List.{All};
+ghost use Rattle.slice_base.specs.declared.points.Tri.{Tri};
+ghost use Rattle.settings_core.specs.declared.resolved.Settings.{Settings};
 ghost use Rattle.settings_core.specs.Valid.{IsPrintInRange};
 ghost use Rattle.cross_section.specs.Heights.{top_of};
 ghost use Rattle.cross_section.specs.Planes.{plane_of, IsLayerCount};
+ghost use Rattle.outline_file.specs.declared.answers.Outlines.{Outlines};
+ghost use Rattle.outline_file.specs.declared.answers.OutlineFault.{OutlineFault};
 ghost use Rattle.outline_file.specs.Layers.{top_of_all, stitched_at, loops_at, dropped_at, outlines_of, OutlinesGive};
 
 use crate::answers::{MOST_LAYERS, OutlineFault, Outlines};
@@ -111,6 +115,12 @@ fn all_layers(
         layers,
     })
 }
+
+/// Settings and meshes give one answer at most: the outlines of all layers, or no layers, or too many. The
+/// call does nothing.
+pub fn outlines_are_one()
+    ensures { (s : Settings) (meshes : List (List Tri)) (a b : Result Outlines OutlineFault) → OutlinesGive s meshes a → OutlinesGive s meshes b → a ≡ b }
+{}
 
 /// The outlines of meshes in place, in each layer those of one mesh after those of the other. That there
 /// are no layers, or over 10,000, is found before memory is wanted.

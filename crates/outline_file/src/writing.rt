@@ -8,7 +8,7 @@ ghost use Rattle.outline_file.specs.Outline.{closed_text, loop_text, loops_text,
 
 use crate::answers::Outlines;
 use crate::lines::{layer_begin, layer_count, open_outlines, print_move, travel};
-use outside::{Sink, put_all};
+use outside::{Sink, put_all, puts_add_up};
 use settings_core::Settings;
 use slice_base::{Failed, Loop, Pt, Region, Text};
 
@@ -17,6 +17,7 @@ fn put_closed<S: Sink>(sink: &mut S, points: &[Pt], start: Pt) -> Result<(), Fai
     ensures ok { OnOk result (Put (S.output sink.old) (closed_text true points.now start) (S.output sink.new)) }
     ensures err { OnErr result (PutFront (S.output sink.old) (closed_text true points.now start) (S.output sink.new)) }
 {
+    puts_add_up();
     let mut is_first = true;
     for p in points {
         put_all(sink, print_move(is_first, *p).as_slice())?;
@@ -30,6 +31,7 @@ fn put_loop<S: Sink>(sink: &mut S, z: Option<u32>, points: &[Pt]) -> Result<(), 
     ensures ok { OnOk result (Put (S.output sink.old) (loop_text z points.now) (S.output sink.new)) }
     ensures err { OnErr result (PutFront (S.output sink.old) (loop_text z points.now) (S.output sink.new)) }
 {
+    puts_add_up();
     match points {
         [] => Ok(()),
         [first, others @ ..] => {
@@ -44,6 +46,7 @@ fn put_loops<S: Sink>(sink: &mut S, z: Option<u32>, loops: &[Loop]) -> Result<()
     ensures ok { OnOk result (Put (S.output sink.old) (loops_text z loops.now) (S.output sink.new)) }
     ensures err { OnErr result (PutFront (S.output sink.old) (loops_text z loops.now) (S.output sink.new)) }
 {
+    puts_add_up();
     let mut z = z;
     for l in loops {
         put_loop(sink, z, l.points())?;
@@ -73,6 +76,7 @@ fn put_layer<S: Sink>(
     ensures ok { OnOk result (Put (S.output sink.old) (layer_text settings.now k layer.now) (S.output sink.new)) }
     ensures err { OnErr result (PutFront (S.output sink.old) (layer_text settings.now k layer.now) (S.output sink.new)) }
 {
+    puts_add_up();
     put_all(sink, layer_begin(k).as_slice())?;
     put_loops(sink, Some(layer_top(settings, k)), layer.loops())
 }
@@ -84,6 +88,7 @@ fn put_layers<S: Sink>(sink: &mut S, settings: &Settings, layers: &[Region]) -> 
     ensures ok { OnOk result (Put (S.output sink.old) (layers_text settings.now 0 layers.now) (S.output sink.new)) }
     ensures err { OnErr result (PutFront (S.output sink.old) (layers_text settings.now 0 layers.now) (S.output sink.new)) }
 {
+    puts_add_up();
     for k in 0..layers.len() {
         put_layer(sink, settings, k as u32, &layers[k])?;
     }
@@ -95,6 +100,7 @@ fn put_header<S: Sink>(sink: &mut S, open_count: u64, n: u32) -> Result<(), Fail
     ensures ok { OnOk result (Put (S.output sink.old) (header_text open_count n) (S.output sink.new)) }
     ensures err { OnErr result (PutFront (S.output sink.old) (header_text open_count n) (S.output sink.new)) }
 {
+    puts_add_up();
     put_all(sink, b";FLAVOR:Marlin\n")?;
     put_all(sink, open_outlines(open_count).as_slice())?;
     put_all(sink, b"G21\n")?;
@@ -109,6 +115,7 @@ fn put_file<S: Sink>(sink: &mut S, settings: &Settings, outlines: &Outlines) -> 
     ensures ok { OnOk result (Put (S.output sink.old) (file_of settings.now outlines.now) (S.output sink.new)) }
     ensures err { OnErr result (PutFront (S.output sink.old) (file_of settings.now outlines.now) (S.output sink.new)) }
 {
+    puts_add_up();
     put_header(sink, outlines.open, outlines.layers.len() as u32)?;
     put_layers(sink, settings, outlines.layers.items())?;
     put_all(sink, b"M84\n")

@@ -1,4 +1,4 @@
--- A task's plan is what the task and told files define.
+-- A task and told files define one thing.
 use Rattle.std.proofs.Common.{ℕ, ◌≡◌, List, Option, Some, ◌⊎◌, Result, Ok, Err, refl, sym, ◌∙◌, ap, subst, inl, inr}
 use Rattle.slice_base.specs.declared.points.Tri.{Tri}
 use Rattle.settings_core.specs.declared.resolved.Settings.{Settings}
@@ -9,107 +9,89 @@ use Rattle.plate_input.specs.declared.plates.Plate.{Plate}
 use Rattle.plate_input.specs.Plate.{PlateGives}
 use Rattle.outline_file.specs.declared.answers.Outlines.{Outlines}
 use Rattle.outline_file.specs.declared.answers.OutlineFault.{OutlineFault}
-use Rattle.outline_file.specs.declared.answers.OutlineFault.TheVariants as outline
 use Rattle.outline_file.specs.Layers.{OutlinesGive}
 use Rattle.slice_engine.specs.declared.jobs.Job.{Job}
 use Rattle.slice_engine.specs.Job.{TaskGives, outline_refusal}
+use Rattle.slice_engine.specs.Answers.{SaysPlanned}
 
--- the plate that was read, or want of memory, is whatever the items and the files define
-abbrev pub IsOnlyPlate : Task → List (List ℕ × List ℕ) → Result Plate Refusal → Type 0
-IsOnlyPlate task files read = (a : Result Plate Refusal) → PlateGives task.items (Some files) a → (read ≡ a) ⊎ (read ≡ Err refusal.NoMemory)
+-- the items of a task and its files define one plate, or one refusal
+abbrev pub HasOnePlate : Task → List (List ℕ × List ℕ) → Type 0
+HasOnePlate task files = (a b : Result Plate Refusal) → PlateGives task.items (Some files) a → PlateGives task.items (Some files) b → a ≡ b
 
-abbrev pub AreOnlyOutlines : Settings → List (List Tri) → Result Outlines OutlineFault → Type 0
-AreOnlyOutlines s meshes made = (a : Result Outlines OutlineFault) → OutlinesGive s meshes a → (made ≡ a) ⊎ (made ≡ Err outline.NoMemory)
+-- settings and meshes give one answer
+abbrev pub HaveOneOutcome : Type 0
+HaveOneOutcome = (s : Settings) (meshes : List (List Tri)) (a b : Result Outlines OutlineFault) → OutlinesGive s meshes a → OutlinesGive s meshes b → a ≡ b
+
+same_plate : (p q : Plate) → ◌≡◌ {A = Result Plate Refusal} (Ok p) (Ok q) → p ≡ q
+same_plate p q e = cc
+
+no_plate : (r : Refusal) (p : Plate) → ◌≡◌ {A = Result Plate Refusal} (Ok p) (Err r) → ⊥
+no_plate r p e = cc
+
+same_outlines : (o p : Outlines) → ◌≡◌ {A = Result Outlines OutlineFault} (Ok o) (Ok p) → o ≡ p
+same_outlines o p e = cc
+
+no_outlines : (o : Outlines) (f : OutlineFault) → ◌≡◌ {A = Result Outlines OutlineFault} (Ok o) (Err f) → ⊥
+no_outlines o f e = cc
+
+same_cause : (f g : OutlineFault) → ◌≡◌ {A = Result Outlines OutlineFault} (Err f) (Err g) → f ≡ g
+same_cause f g e = cc
 
 -- the same refusal, of a plate and of a job
 as_job : (r x : Refusal) → ◌≡◌ {A = Result Plate Refusal} (Err r) (Err x) → ◌≡◌ {A = Result Job Refusal} (Err r) (Err x)
 as_job r x e = cc
 
-no_plate : (r : Refusal) (plate : Plate) → ◌≡◌ {A = Result Plate Refusal} (Err r) (Ok plate) → ⊥
-no_plate r plate e = cc
-
-no_refusal : (r : Refusal) (plate : Plate) → ◌≡◌ {A = Result Plate Refusal} (Ok plate) (Err r) → ⊥
-no_refusal r plate e = cc
-
-same_plate : (p q : Plate) → ◌≡◌ {A = Result Plate Refusal} (Ok p) (Ok q) → p ≡ q
-same_plate p q e = cc
-
--- a plate that was refused
-either_refused : (r x : Refusal) → (◌≡◌ {A = Result Plate Refusal} (Err r) (Err x)) ⊎ (◌≡◌ {A = Result Plate Refusal} (Err r) (Err refusal.NoMemory)) → (◌≡◌ {A = Result Job Refusal} (Err r) (Err x)) ⊎ (◌≡◌ {A = Result Job Refusal} (Err r) (Err refusal.NoMemory))
-either_refused r x (inl e) = inl (as_job r x e)
-either_refused r x (inr e) = inr (as_job r refusal.NoMemory e)
-
-only_memory : (r : Refusal) (plate : Plate) (answer : Result Job Refusal) → (◌≡◌ {A = Result Plate Refusal} (Err r) (Ok plate)) ⊎ (◌≡◌ {A = Result Plate Refusal} (Err r) (Err refusal.NoMemory)) → (Err r ≡ answer) ⊎ (◌≡◌ {A = Result Job Refusal} (Err r) (Err refusal.NoMemory))
-only_memory r plate answer (inl e) = absurd (no_plate r plate e)
-only_memory r plate answer (inr e) = inr (as_job r refusal.NoMemory e)
-
-pub one_refused : (task : Task) (files : List (List ℕ × List ℕ)) (r : Refusal) (answer : Result Job Refusal) → IsOnlyPlate task files (Err r) → TaskGives task (Some files) answer → (Err r ≡ answer) ⊎ (◌≡◌ {A = Result Job Refusal} (Err r) (Err refusal.NoMemory))
-one_refused task files r (Ok job) only g = only_memory r g.plate (Ok job) (only (Ok g.plate) g.reads)
-one_refused task files r (Err x) only (inl p) = either_refused r x (only (Err x) p)
-one_refused task files r (Err x) only (inr u) = only_memory r u.plate (Err x) (only (Ok u.plate) u.reads)
-
--- a plate that was read is the one that is defined
-plate_is : (plate p : Plate) → (◌≡◌ {A = Result Plate Refusal} (Ok plate) (Ok p)) ⊎ (◌≡◌ {A = Result Plate Refusal} (Ok plate) (Err refusal.NoMemory)) → plate ≡ p
-plate_is plate p (inl e) = same_plate plate p e
-plate_is plate p (inr e) = absurd (no_refusal refusal.NoMemory plate e)
-
-not_refused : (plate : Plate) (x : Refusal) → (◌≡◌ {A = Result Plate Refusal} (Ok plate) (Err x)) ⊎ (◌≡◌ {A = Result Plate Refusal} (Ok plate) (Err refusal.NoMemory)) → ⊥
-not_refused plate x (inl e) = no_refusal x plate e
-not_refused plate x (inr e) = no_refusal refusal.NoMemory plate e
-
 same_out : (out : Option (List ℕ)) (a b : List ℕ) → out ≡ Some a → out ≡ Some b → a ≡ b
 same_out out a b e f = cc
 
-abbrev pub job_with : List ℕ → Settings → Outlines → Job
-job_with output s o = record { output = output; settings = s; outlines = o }
+same_job : (j k : Job) → j.output ≡ k.output → j.settings ≡ k.settings → j.outlines ≡ k.outlines → j ≡ k
+same_job j k output settings outlines = cc
 
-job_is : (job : Job) (output : List ℕ) (s : Settings) (o : Outlines) → output ≡ job.output → s ≡ job.settings → o ≡ job.outlines → job_with output s o ≡ job
-job_is job output s o e f h =
-    subst (λ x. job_with x s o ≡ job) (sym e) (subst (λ x. job_with job.output x o ≡ job) (sym f) (subst (λ x. job_with job.output job.settings x ≡ job) (sym h) refl))
+-- the outcome of a plate is that of the same plate
+of_same : (p q : Plate) (a : Result Outlines OutlineFault) → p ≡ q → OutlinesGive q.settings q.meshes a → OutlinesGive p.settings p.meshes a
+of_same p q a same g = subst (λ x. OutlinesGive x.settings x.meshes a) (sym same) g
 
-outlines_are : (o p : Outlines) → (◌≡◌ {A = Result Outlines OutlineFault} (Ok o) (Ok p)) ⊎ (◌≡◌ {A = Result Outlines OutlineFault} (Ok o) (Err outline.NoMemory)) → o ≡ p
-outlines_are o p (inl e) = cc
-outlines_are o p (inr e) = absurd (cc e)
+-- a task and told files define one job, or one refusal
+pub one_task : (task : Task) (files : List (List ℕ × List ℕ)) (a b : Result Job Refusal) → HasOnePlate task files → HaveOneOutcome → TaskGives task (Some files) a → TaskGives task (Some files) b → a ≡ b
+one_task task files (Ok j) (Ok k) plates lines x y =
+    let same = same_plate x.plate y.plate (plates (Ok x.plate) (Ok y.plate) x.reads y.reads) in
+    ap Ok (same_job j k
+    (same_out task.out j.output k.output x.output y.output)
+    (x.settings ∙ ap (λ p. p.settings) same ∙ sym y.settings)
+    (same_outlines j.outlines k.outlines (lines x.plate.settings x.plate.meshes (Ok j.outlines) (Ok k.outlines) x.outlines (of_same x.plate y.plate (Ok k.outlines) same y.outlines))))
+one_task task files (Ok j) (Err r) plates lines x (inl p) = absurd (no_plate r x.plate (plates (Ok x.plate) (Err r) x.reads p))
+one_task task files (Ok j) (Err r) plates lines x (inr u) =
+    let same = same_plate x.plate u.plate (plates (Ok x.plate) (Ok u.plate) x.reads u.reads) in
+    absurd (no_outlines j.outlines u.cause (lines x.plate.settings x.plate.meshes (Ok j.outlines) (Err u.cause) x.outlines (of_same x.plate u.plate (Err u.cause) same u.outlines)))
+one_task task files (Err r) (Ok k) plates lines x y = sym (one_task task files (Ok k) (Err r) plates lines y x)
+one_task task files (Err r) (Err s) plates lines (inl p) (inl q) = as_job r s (plates (Err r) (Err s) p q)
+one_task task files (Err r) (Err s) plates lines (inl p) (inr v) = absurd (no_plate r v.plate (plates (Ok v.plate) (Err r) v.reads p))
+one_task task files (Err r) (Err s) plates lines (inr u) (inl q) = absurd (no_plate s u.plate (plates (Ok u.plate) (Err s) u.reads q))
+one_task task files (Err r) (Err s) plates lines (inr u) (inr v) =
+    let same = same_plate u.plate v.plate (plates (Ok u.plate) (Ok v.plate) u.reads v.reads) in
+    ap Err (u.named ∙ ap outline_refusal (same_cause u.cause v.cause (lines u.plate.settings u.plate.meshes (Err u.cause) (Err v.cause) u.outlines (of_same u.plate v.plate (Err v.cause) same v.outlines))) ∙ sym v.named)
 
-not_unfit : (o : Outlines) (f : OutlineFault) → (◌≡◌ {A = Result Outlines OutlineFault} (Ok o) (Err f)) ⊎ (◌≡◌ {A = Result Outlines OutlineFault} (Ok o) (Err outline.NoMemory)) → ⊥
-not_unfit o f (inl e) = cc
-not_unfit o f (inr e) = cc
-
-pub one_planned : (task : Task) (files : List (List ℕ × List ℕ)) (plate : Plate) (output : List ℕ) (o : Outlines) (answer : Result Job Refusal)
-    → IsOnlyPlate task files (Ok plate) → task.out ≡ Some output → AreOnlyOutlines plate.settings plate.meshes (Ok o) → TaskGives task (Some files) answer
-    → (◌≡◌ {A = Result Job Refusal} (Ok (job_with output plate.settings o)) answer) ⊎ (◌≡◌ {A = Result Job Refusal} (Ok (job_with output plate.settings o)) (Err refusal.NoMemory))
-one_planned task files plate output o (Ok job) only out lines g =
-    let same : plate ≡ g.plate = plate_is plate g.plate (only (Ok g.plate) g.reads) in
-    inl (ap Ok (job_is job output plate.settings o
-    (same_out task.out output job.output out g.output)
-    (ap (λ p. p.settings) same ∙ sym g.settings)
-    (outlines_are o job.outlines (lines (Ok job.outlines) (subst (λ p. OutlinesGive p.settings p.meshes (Ok job.outlines)) (sym same) g.outlines)))))
-one_planned task files plate output o (Err x) only out lines (inl p) = absurd (not_refused plate x (only (Err x) p))
-one_planned task files plate output o (Err x) only out lines (inr u) =
-    let same : plate ≡ u.plate = plate_is plate u.plate (only (Ok u.plate) u.reads) in
-    absurd (not_unfit o u.cause (lines (Err u.cause) (subst (λ p. OutlinesGive p.settings p.meshes (Err u.cause)) (sym same) u.outlines)))
-
-unfit_memory : (f : OutlineFault) → ◌≡◌ {A = Result Outlines OutlineFault} (Err f) (Err outline.NoMemory) → outline_refusal f ≡ refusal.NoMemory
-unfit_memory f e = let same : f ≡ outline.NoMemory = cc in ap outline_refusal same
-
-unfit_job : (f : OutlineFault) (o : Outlines) (answer : Result Job Refusal) → (◌≡◌ {A = Result Outlines OutlineFault} (Err f) (Ok o)) ⊎ (◌≡◌ {A = Result Outlines OutlineFault} (Err f) (Err outline.NoMemory)) → (Err (outline_refusal f) ≡ answer) ⊎ (◌≡◌ {A = Result Job Refusal} (Err (outline_refusal f)) (Err refusal.NoMemory))
-unfit_job f o answer (inl e) = absurd (cc e)
-unfit_job f o answer (inr e) = inr (ap Err (unfit_memory f e))
-
-unfit_same : (f g : OutlineFault) → ◌≡◌ {A = Result Outlines OutlineFault} (Err f) (Err g) → outline_refusal f ≡ outline_refusal g
-unfit_same f g e = let same : f ≡ g = cc in ap outline_refusal same
-
-unfit_refusal : (f g : OutlineFault) (x : Refusal) → x ≡ outline_refusal g → (◌≡◌ {A = Result Outlines OutlineFault} (Err f) (Err g)) ⊎ (◌≡◌ {A = Result Outlines OutlineFault} (Err f) (Err outline.NoMemory)) → (◌≡◌ {A = Result Job Refusal} (Err (outline_refusal f)) (Err x)) ⊎ (◌≡◌ {A = Result Job Refusal} (Err (outline_refusal f)) (Err refusal.NoMemory))
-unfit_refusal f g x named (inl e) = inl (ap Err (unfit_same f g e ∙ sym named))
-unfit_refusal f g x named (inr e) = inr (ap Err (unfit_memory f e))
-
-pub one_unfit : (task : Task) (files : List (List ℕ × List ℕ)) (plate : Plate) (f : OutlineFault) (answer : Result Job Refusal)
-    → IsOnlyPlate task files (Ok plate) → AreOnlyOutlines plate.settings plate.meshes (Err f) → TaskGives task (Some files) answer
-    → (Err (outline_refusal f) ≡ answer) ⊎ (◌≡◌ {A = Result Job Refusal} (Err (outline_refusal f)) (Err refusal.NoMemory))
-one_unfit task files plate f (Ok job) only lines g =
-    let same : plate ≡ g.plate = plate_is plate g.plate (only (Ok g.plate) g.reads) in
-    unfit_job f job.outlines (Ok job) (lines (Ok job.outlines) (subst (λ p. OutlinesGive p.settings p.meshes (Ok job.outlines)) (sym same) g.outlines))
-one_unfit task files plate f (Err x) only lines (inl p) = absurd (not_refused plate x (only (Err x) p))
-one_unfit task files plate f (Err x) only lines (inr u) =
-    let same : plate ≡ u.plate = plate_is plate u.plate (only (Ok u.plate) u.reads) in
-    unfit_refusal f u.cause x u.named (lines (Err u.cause) (subst (λ p. OutlinesGive p.settings p.meshes (Err u.cause)) (sym same) u.outlines))
+-- where one thing is defined it is the answer, unless a read failed or memory ran out
+pub one_said : (answer a : Result Job Refusal) (gives : Result Job Refusal → Type 0) (failed : List ℕ → Type 0) (faultless : Type 0)
+    → ((x y : Result Job Refusal) → gives x → gives y → x ≡ y) → ((name : List ℕ) → failed name → ⊥) → SaysPlanned answer gives failed faultless → gives a
+    → (answer ≡ a) ⊎ (answer ≡ Err refusal.NoMemory)
+one_said (Ok job) a gives failed faultless one none says g = inl (one (Ok job) a says g)
+one_said (Err (refusal.ReadFault name)) a gives failed faultless one none says g = absurd (none name says)
+one_said (Err refusal.NoMemory) a gives failed faultless one none says g = inr refl
+one_said (Err (refusal.BadWord n)) a gives failed faultless one none says g = inl (one (Err (refusal.BadWord n)) a says g)
+one_said (Err refusal.NoInput) a gives failed faultless one none says g = inl (one (Err refusal.NoInput) a says g)
+one_said (Err refusal.NoOutput) a gives failed faultless one none says g = inl (one (Err refusal.NoOutput) a says g)
+one_said (Err (refusal.NotBuilt n)) a gives failed faultless one none says g = inl (one (Err (refusal.NotBuilt n)) a says g)
+one_said (Err (refusal.TooLong name)) a gives failed faultless one none says g = inl (one (Err (refusal.TooLong name)) a says g)
+one_said (Err (refusal.NotJson name)) a gives failed faultless one none says g = inl (one (Err (refusal.NotJson name)) a says g)
+one_said (Err (refusal.BadValue scope key)) a gives failed faultless one none says g = inl (one (Err (refusal.BadValue scope key)) a says g)
+one_said (Err (refusal.OutOfRange scope key)) a gives failed faultless one none says g = inl (one (Err (refusal.OutOfRange scope key)) a says g)
+one_said (Err (refusal.UnknownExtruder mesh)) a gives failed faultless one none says g = inl (one (Err (refusal.UnknownExtruder mesh)) a says g)
+one_said (Err (refusal.BadStl mesh line)) a gives failed faultless one none says g = inl (one (Err (refusal.BadStl mesh line)) a says g)
+one_said (Err (refusal.TooManyTriangles mesh n)) a gives failed faultless one none says g = inl (one (Err (refusal.TooManyTriangles mesh n)) a says g)
+one_said (Err (refusal.NoTriangles mesh)) a gives failed faultless one none says g = inl (one (Err (refusal.NoTriangles mesh)) a says g)
+one_said (Err (refusal.OutsideVolume mesh n)) a gives failed faultless one none says g = inl (one (Err (refusal.OutsideVolume mesh n)) a says g)
+one_said (Err refusal.NoLayers) a gives failed faultless one none says g = inl (one (Err refusal.NoLayers) a says g)
+one_said (Err (refusal.TooManyLayers n)) a gives failed faultless one none says g = inl (one (Err (refusal.TooManyLayers n)) a says g)
+one_said (Err refusal.WriteFault) a gives failed faultless one none says g = inl (one (Err refusal.WriteFault) a says g)
+one_said (Err refusal.ConsoleFault) a gives failed faultless one none says g = inl (one (Err refusal.ConsoleFault) a says g)

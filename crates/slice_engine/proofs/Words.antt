@@ -13,7 +13,11 @@ use Rattle.outline_file.specs.declared.answers.OutlineFault.{OutlineFault}
 use Rattle.outline_file.specs.declared.answers.OutlineFault.TheVariants as outline
 use Rattle.slice_engine.specs.declared.jobs.Job.{Job}
 use Rattle.slice_engine.specs.Job.{WordsGive, IsWordsAnswer, CommandGives, word_refusal, outline_refusal}
-use Rattle.slice_engine.specs.Answers.{SaysPlanned}
+use Rattle.slice_base.specs.Causes.{Rose}
+use Rattle.outside.specs.Store.{Store}
+use Rattle.cli_words.specs.declared.command.Task.{Task}
+use Rattle.slice_engine.specs.Answers.{SaysPlanned, HasFailedRead}
+use Rattle.slice_engine.proofs.Plans.{HasOnePlate, HaveOneOutcome, one_task}
 
 -- a name in front of others
 pub behind_output : (P : List ℕ → Type 0) (out : Option (List ℕ)) (names : List (List ℕ)) → IsSome out → All P (option_to_list out ++ names) → All P names
@@ -45,20 +49,41 @@ says_words (Err fault.NoInput) r files failed (inr g) = says_as (CommandGives (E
 says_words (Err fault.NoOutput) r files failed (inr g) = says_as (CommandGives (Err fault.NoOutput) files) failed (IsOk {T = Command} {E = WordFault} (Err fault.NoOutput)) r refusal.NoOutput g refl
 says_words (Err fault.NoMemory) r files failed (inr g) = absurd g
 
-same_answer : (command : Result Command WordFault) (r : Refusal) (answer : Result Job Refusal) → ((x : Refusal) → WordsGive command x → r ≡ x) → IsWordsAnswer command answer → Err r ≡ answer
-same_answer command r (Ok job) one h = absurd h
-same_answer command r (Err x) one h = ap Err (one x h)
+-- a command at fault, or that isn't built, has one refusal
+one_words : (command : Result Command WordFault) (r x : Refusal) → WordsGive command r → WordsGive command x → r ≡ x
+one_words (Ok (Serial task)) r x g h = absurd g
+one_words (Ok (Slice task)) r x g h = g ∙ sym h
+one_words (Ok (Check task)) r x g h = g ∙ sym h
+one_words (Ok (Gen n name)) r x g h = g ∙ sym h
+one_words (Err (fault.BadWord n)) r x g h = g ∙ sym h
+one_words (Err fault.NoInput) r x g h = g ∙ sym h
+one_words (Err fault.NoOutput) r x g h = g ∙ sym h
+one_words (Err fault.NoMemory) r x g h = absurd g
 
--- words give one refusal, whatever the files are
-pub words_only : (command : Result Command WordFault) (r : Refusal) (files : Option (List (List ℕ × List ℕ))) (answer : Result Job Refusal) → WordsGive command r → CommandGives command files answer → Err r ≡ answer
-words_only (Ok (Serial task)) r files answer g h = absurd g
-words_only (Ok (Slice task)) r files answer g h = same_answer (Ok (Slice task)) r answer (λ x e. g ∙ sym e) h
-words_only (Ok (Check task)) r files answer g h = same_answer (Ok (Check task)) r answer (λ x e. g ∙ sym e) h
-words_only (Ok (Gen n name)) r files answer g h = same_answer (Ok (Gen n name)) r answer (λ x e. g ∙ sym e) h
-words_only (Err (fault.BadWord n)) r files answer g h = same_answer (Err (fault.BadWord n)) r answer (λ x e. g ∙ sym e) h
-words_only (Err fault.NoInput) r files answer g h = same_answer (Err fault.NoInput) r answer (λ x e. g ∙ sym e) h
-words_only (Err fault.NoOutput) r files answer g h = same_answer (Err fault.NoOutput) r answer (λ x e. g ∙ sym e) h
-words_only (Err fault.NoMemory) r files answer g h = absurd g
+one_answer : (command : Result Command WordFault) (a b : Result Job Refusal) → IsWordsAnswer command a → IsWordsAnswer command b → a ≡ b
+one_answer command (Ok job) b g h = absurd g
+one_answer command (Err r) (Ok job) g h = absurd h
+one_answer command (Err r) (Err x) g h = ap Err (one_words command r x g h)
+
+-- a command and told files define one job, or one refusal
+pub one_command : (command : Result Command WordFault) (files : List (List ℕ × List ℕ)) (a b : Result Job Refusal)
+    → ((task : Task) → HasOnePlate task files) → HaveOneOutcome → CommandGives command (Some files) a → CommandGives command (Some files) b → a ≡ b
+one_command (Ok (Serial task)) files a b plates outlines g h = one_task task files a b (plates task) outlines g h
+one_command (Ok (Slice task)) files a b plates outlines g h = one_answer (Ok (Slice task)) a b g h
+one_command (Ok (Check task)) files a b plates outlines g h = one_answer (Ok (Check task)) a b g h
+one_command (Ok (Gen n name)) files a b plates outlines g h = one_answer (Ok (Gen n name)) a b g h
+one_command (Err (fault.BadWord n)) files a b plates outlines g h = one_answer (Err (fault.BadWord n)) a b g h
+one_command (Err fault.NoInput) files a b plates outlines g h = one_answer (Err fault.NoInput) a b g h
+one_command (Err fault.NoOutput) files a b plates outlines g h = one_answer (Err fault.NoOutput) a b g h
+one_command (Err fault.NoMemory) files a b plates outlines g h = one_answer (Err fault.NoMemory) a b g h
+
+-- a read that failed was counted
+pub failed_rose : (command : Result Command WordFault) (name : List ℕ) (before after : Store) → HasFailedRead command name before after → Rose before.faults after.faults
+failed_rose (Ok (Serial task)) name before after failed = failed.cause
+failed_rose (Ok (Slice task)) name before after failed = absurd failed
+failed_rose (Ok (Check task)) name before after failed = absurd failed
+failed_rose (Ok (Gen n name')) name before after failed = absurd failed
+failed_rose (Err f) name before after failed = absurd failed
 
 -- no plate is unfit by its words, the output or the console
 no_bad_word : (n : ℕ) (f : OutlineFault) → refusal.BadWord n ≡ outline_refusal f → ⊥

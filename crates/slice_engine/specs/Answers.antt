@@ -1,5 +1,6 @@
 -- What each answer says.
 use Rattle.std.specs.Prelude.{ℕ, ◌≡◌, List, length, ◌⊎◌, Option, Some, None, Result, Ok, Err, IsOk}
+use Rattle.slice_base.specs.Causes.{counted}
 use Rattle.outside.specs.Store.{Store}
 use Rattle.outside.specs.Output.{Output, Put, PutFront}
 use Rattle.answers.specs.declared.refusal.Refusal.{Refusal}
@@ -16,8 +17,8 @@ use Rattle.outline_file.specs.Written.{Wrote, BrokeOff}
 use Rattle.slice_engine.specs.declared.jobs.Job.{Job}
 use Rattle.slice_engine.specs.Job.{JobGives, TaskGives}
 
--- No file was changed, and no more were read than the command names; none at all where the words are at
--- fault or ask for what isn't built.
+-- of a command: no file was changed, and no more were read than it names; none at all where the words are
+-- at fault or ask for what isn't built
 abbrev pub CommandReads : Result Command WordFault → Store → Store → Type 0
 CommandReads (Ok (Serial task)) before after = ReadsFew task.items before after
 CommandReads (Ok (Slice task)) before after = after ≡ before
@@ -25,8 +26,24 @@ CommandReads (Ok (Check task)) before after = after ≡ before
 CommandReads (Ok (Gen n name)) before after = after ≡ before
 CommandReads (Err f) before after = after ≡ before
 
+-- the same, of words
 abbrev pub WordsRead : List (List ℕ) → Store → Store → Type 0
 WordsRead words before after = CommandReads (command_of words) before after
+
+-- how often the shelf had failed, and how often it has after this answer: a failed read is one failure more
+abbrev pub faults_then : {T : Type 0} → Result T Refusal → ℕ → ℕ
+faults_then (Err (refusal.ReadFault name)) before = counted before
+faults_then answer before = before
+
+-- the same, of the answer of a run
+abbrev pub read_faults : Option Refusal → ℕ → ℕ
+read_faults (Some (refusal.ReadFault name)) before = counted before
+read_faults answer before = before
+
+-- the same of the sink: a failed write is one failure more
+abbrev pub write_faults : Option Refusal → ℕ → ℕ
+write_faults (Some refusal.WriteFault) before = counted before
+write_faults answer before = before
 
 -- the words have no fault, and the read of one of their files failed
 abbrev pub HasFailedRead : Result Command WordFault → List ℕ → Store → Store → Type 0
@@ -36,16 +53,19 @@ HasFailedRead (Ok (Check task)) name before after = ⊥
 HasFailedRead (Ok (Gen n name')) name before after = ⊥
 HasFailedRead (Err f) name before after = ⊥
 
--- what a planned job, or a refusal, says of words and files
+-- what a planned job, or a refusal, says of what defines it: it is what is defined, but for a failed read
+-- and want of memory
 abbrev pub SaysPlanned : Result Job Refusal → (Result Job Refusal → Type 0) → (List ℕ → Type 0) → Type 0 → Type 0
 SaysPlanned (Ok job) gives failed_read faultless = gives (Ok job)
 SaysPlanned (Err (refusal.ReadFault name)) gives failed_read faultless = failed_read name
 SaysPlanned (Err refusal.NoMemory) gives failed_read faultless = faultless
 SaysPlanned (Err r) gives failed_read faultless = gives (Err r)
 
+-- the same of a task and its files
 abbrev pub SaysTask : Result Job Refusal → Task → Store → Store → Type 0
 SaysTask answer task before after = SaysPlanned answer (TaskGives task before.files) (λ name. FailedRead task.items name before after) (Unit {0})
 
+-- the same of words and files; want of memory comes only where the words have no fault
 abbrev pub SaysJob : Result Job Refusal → List (List ℕ) → Store → Store → Type 0
 SaysJob answer words before after = SaysPlanned answer (JobGives words before.files) (λ name. HasFailedRead (command_of words) name before after) (IsOk (command_of words))
 

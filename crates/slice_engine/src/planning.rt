@@ -12,15 +12,15 @@ ghost use Rattle.cli_words.specs.declared.command.WordFault.{WordFault};
 ghost use Rattle.cli_words.specs.Command.{command_of, IsTask, task_names};
 ghost use Rattle.plate_input.specs.Answers.{ReadsFew};
 ghost use Rattle.slice_engine.specs.declared.jobs.Job.{Job};
-ghost use Rattle.slice_engine.specs.Job.{JobGives, TaskGives, WordsGive, word_refusal, outline_refusal};
-ghost use Rattle.slice_engine.specs.Answers.{WordsRead, SaysJob, SaysTask};
+ghost use Rattle.slice_engine.specs.Job.{JobGives, WordsGive, word_refusal, outline_refusal};
+ghost use Rattle.slice_engine.specs.Answers.{WordsRead, SaysJob, SaysTask, faults_then};
 
 use crate::jobs::Job;
 use answers::Refusal;
 use cli_words::{Command, Task, WordFault, read_words};
-use outline_file::{OutlineFault, outlines};
+use outline_file::{OutlineFault, outlines, outlines_are_one};
 use outside::Shelf;
-use plate_input::{Plate, read_plate};
+use plate_input::{Plate, plates_are_one, read_plate};
 use std::alloc::Global;
 
 fn refusal_of_words(fault: WordFault) -> Refusal
@@ -66,8 +66,7 @@ fn plan_task<Sh: Shelf>(alloc: Global, task: Task, shelf: &mut Sh) -> Result<Job
     requires writes { IsSome task.out }
     requires names { All IsUtf8 (task_names task) }
     ensures says { SaysTask result task (Sh.store shelf.old) (Sh.store shelf.new) }
-    ensures one { (files : List (List ℕ × List ℕ)) (a : Result Job Refusal) → (Sh.store shelf.old).files ≡ Some files → TaskGives task (Some files) a
-        → ¬ (Rose (Sh.store shelf.old).faults (Sh.store shelf.new).faults) → (result ≡ a) ⊎ (result ≡ Err refusal.NoMemory) }
+    ensures faults { (Sh.store shelf.new).faults ≡ faults_then result (Sh.store shelf.old).faults }
     ensures reads { ReadsFew task.items (Sh.store shelf.old) (Sh.store shelf.new) }
     ensures valid { IfOk result (λ job. IsValid job.settings) }
     ensures few { IfOk result (λ job. length job.outlines.layers ≤ 10000) }
@@ -93,20 +92,11 @@ fn plan_task<Sh: Shelf>(alloc: Global, task: Task, shelf: &mut Sh) -> Result<Job
     }
 }
 
-/// The job that the words and the files of the shelf define, or the first refusal. The words are
-/// tested before any file is read; then all files are read in the order of the words, then the
-/// settings are resolved, and then each mesh is read and put in place.
-///
-/// Of the commands `serial` is built; each other is `NotBuilt { index: 1 }`.
-pub fn plan_job<Sh: Shelf>(alloc: Global, words: &[String], shelf: &mut Sh) -> Result<Job, Refusal>
+// The job of the words and the files of the shelf.
+fn plan_words<Sh: Shelf>(alloc: Global, words: &[String], shelf: &mut Sh) -> Result<Job, Refusal>
     ensures says { SaysJob result (map string_bytes words.now) (Sh.store shelf.old) (Sh.store shelf.new) }
-
-    // What told files define is one thing, and it is the answer, unless a read failed or memory ran out.
-    ensures one { (files : List (List ℕ × List ℕ)) (a : Result Job Refusal) → (Sh.store shelf.old).files ≡ Some files → JobGives (map string_bytes words.now) (Some files) a
-        → ¬ (Rose (Sh.store shelf.old).faults (Sh.store shelf.new).faults) → (result ≡ a) ⊎ (result ≡ Err refusal.NoMemory) }
-
-    // Words at fault are the answer, always.
     ensures word { (f : WordFault) → command_of (map string_bytes words.now) ≡ Err f → result ≡ Err (word_refusal f) }
+    ensures faults { (Sh.store shelf.new).faults ≡ faults_then result (Sh.store shelf.old).faults }
     ensures reads { WordsRead (map string_bytes words.now) (Sh.store shelf.old) (Sh.store shelf.new) }
     ensures valid { IfOk result (λ job. IsValid job.settings) }
     ensures few { IfOk result (λ job. length job.outlines.layers ≤ 10000) }
@@ -115,4 +105,37 @@ pub fn plan_job<Sh: Shelf>(alloc: Global, words: &[String], shelf: &mut Sh) -> R
         Ok(task) => plan_task(alloc, task, shelf),
         Err(refusal) => Err(refusal),
     }
+}
+
+/// Words and told files define one job, or one refusal. The call does nothing.
+pub fn jobs_are_one()
+    ensures { (words : List (List ℕ)) (files : List (List ℕ × List ℕ)) (a b : Result Job Refusal) → JobGives words (Some files) a → JobGives words (Some files) b → a ≡ b }
+{
+    plates_are_one();
+    outlines_are_one();
+}
+
+/// The job that the words and the files of the shelf define, or the first refusal. The words are
+/// tested before any file is read; then all files are read in the order of the words, then the
+/// settings are resolved, and then each mesh is read and put in place.
+///
+/// Of the commands `serial` is built; each other is `NotBuilt { index: 1 }`.
+pub fn plan_job<Sh: Shelf>(alloc: Global, words: &[String], shelf: &mut Sh) -> Result<Job, Refusal>
+    ensures says { SaysJob result (map string_bytes words.now) (Sh.store shelf.old) (Sh.store shelf.new) }
+
+    // What told files define is the answer, unless a read failed or memory ran out.
+    ensures one { (files : List (List ℕ × List ℕ)) (a : Result Job Refusal) → (Sh.store shelf.old).files ≡ Some files → JobGives (map string_bytes words.now) (Some files) a
+        → ¬ (Rose (Sh.store shelf.old).faults (Sh.store shelf.new).faults) → (result ≡ a) ⊎ (result ≡ Err refusal.NoMemory) }
+
+    // Words at fault are the answer, always.
+    ensures word { (f : WordFault) → command_of (map string_bytes words.now) ≡ Err f → result ≡ Err (word_refusal f) }
+
+    // The shelf failed once where the answer is a failed read, and else not at all.
+    ensures faults { (Sh.store shelf.new).faults ≡ faults_then result (Sh.store shelf.old).faults }
+    ensures reads { WordsRead (map string_bytes words.now) (Sh.store shelf.old) (Sh.store shelf.new) }
+    ensures valid { IfOk result (λ job. IsValid job.settings) }
+    ensures few { IfOk result (λ job. length job.outlines.layers ≤ 10000) }
+{
+    jobs_are_one();
+    plan_words(alloc, words, shelf)
 }

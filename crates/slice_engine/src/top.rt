@@ -1,6 +1,6 @@
 // The top call.
 
-ghost use Rattle.std.specs.Prelude.{ℕ, ◌≡◌, ◌⊎◌, ◌↔◌, List, Option, Some, None, Ok, Err, IsOk, map, string_bytes};
+ghost use Rattle.std.specs.Prelude.{ℕ, ◌≡◌, ◌⊎◌, ◌↔◌, List, Option, Some, None, Result, Ok, Err, IsOk, map, string_bytes};
 ghost use Rattle.slice_base.specs.Causes.{Rose};
 ghost use Rattle.answers.specs.declared.refusal.Refusal.{Refusal};
 ghost use Rattle.answers.specs.declared.refusal.Refusal.TheVariants as refusal;
@@ -10,10 +10,10 @@ ghost use Rattle.cli_words.specs.declared.command.WordFault.TheVariants as fault
 ghost use Rattle.cli_words.specs.Command.{command_of};
 ghost use Rattle.slice_engine.specs.declared.jobs.Job.{Job};
 ghost use Rattle.slice_engine.specs.Job.{JobGives, word_refusal};
-ghost use Rattle.slice_engine.specs.Answers.{WordsRead, SaysWritten, Says};
+ghost use Rattle.slice_engine.specs.Answers.{WordsRead, SaysWritten, Says, faults_then, read_faults, write_faults};
 
 use crate::jobs::Job;
-use crate::planning::plan_job;
+use crate::planning::{jobs_are_one, plan_job};
 use crate::telling::tell;
 use answers::{Refusal, Run};
 use outline_file::write_file;
@@ -37,6 +37,7 @@ fn plan_and_write<Sh: Shelf, Si: Sink>(
         → JobGives (map string_bytes words.now) (Some files) (Err r)
         → ¬ (Rose (Sh.store shelf.old).faults (Sh.store shelf.new).faults)
         → (result.0 ≡ Err r) ⊎ (result.0 ≡ Err refusal.NoMemory) }
+    ensures faults { (Sh.store shelf.new).faults ≡ faults_then result.0 (Sh.store shelf.old).faults }
     ensures reads { WordsRead (map string_bytes words.now) (Sh.store shelf.old) (Sh.store shelf.new) }
 {
     let job = match plan_job(alloc, words, shelf) {
@@ -91,9 +92,19 @@ pub fn still_top<Sh: Shelf, Si: Sink, Co: Sink>(
         → ¬ (Rose (Sh.store shelf.old).faults (Sh.store shelf.new).faults)
         → (result.0.refusal ≡ Some r) ⊎ (result.0.refusal ≡ Some refusal.NoMemory) }
 
+    // Words and told files define one job, or one refusal.
+    ensures only { (files : List (List ℕ × List ℕ)) (a b : Result Job Refusal) → JobGives (map string_bytes words.now) (Some files) a
+        → JobGives (map string_bytes words.now) (Some files) b → a ≡ b }
+
+    // The shelf failed once where the answer is a failed read, the sink where it is a failed write; else
+    // neither did.
+    ensures read_faults { (Sh.store shelf.new).faults ≡ read_faults result.0.refusal (Sh.store shelf.old).faults }
+    ensures write_faults { (Si.output result.1).faults ≡ write_faults result.0.refusal (Si.output sink).faults }
+
     // No file is changed, and no more are read than the words name; none where the words are at fault.
     ensures reads { WordsRead (map string_bytes words.now) (Sh.store shelf.old) (Sh.store shelf.new) }
 {
+    jobs_are_one();
     let (ended, sink) = plan_and_write(alloc, words, shelf, sink);
     let refusal = tell(console, ended);
     (Run::of(refusal), sink)

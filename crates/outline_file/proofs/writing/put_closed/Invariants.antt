@@ -1,6 +1,6 @@
 use Rattle.std.proofs.Common.{true, drop}
 use Rattle.outline_file.specs.Outline.{closed_text}
-use Rattle.outline_file.proofs.Walks.{Walked}
+use Rattle.outside.specs.Walks.{Walked}
 use Rattle.outline_file.proofs.writing.put_closed.Given as goal
 
 abbrev pub invariant-loop-p : goal.invariant-loop-p

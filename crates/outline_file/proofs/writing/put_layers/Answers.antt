@@ -1,7 +1,6 @@
 use Rattle.std.proofs.Common.{refl, drop, ◌+◌, arith}
 use Rattle.std.proofs.lemmas.Result.{err_from_is_err_and}
 use Rattle.outline_file.specs.Outline.{layer_text, layers_text}
-use Rattle.outline_file.proofs.Walks.{walked-step, walked-front}
 use Rattle.outline_file.proofs.Texts.{layers_text-drop}
 use Rattle.outline_file.proofs.writing.put_layers.Goals as goal
 
@@ -12,7 +11,7 @@ returns-in_err-put_layer-clause-err g c =
     let ls = c.args.layers.now in
     let x = c.index-layers-k.result in
     let p = err_from_is_err_and c.from_residual.result c.from_residual.ensures.1 in
-    rw p.1 (walked-front (g.S.Sink.output c.args.sink.now) (g.S.Sink.output l.sink) (g.S.Sink.output c.put_layer.new.sink)
+    rw p.1 (c.puts_add_up.ensures.front (g.S.Sink.output c.args.sink.now) (g.S.Sink.output l.sink) (g.S.Sink.output c.put_layer.new.sink)
     (layers_text s 0 ls) (layers_text s l.k (drop l.k ls)) (layer_text s l.k x) (layers_text s (l.k + 1) (drop (l.k + 1) ls)) (layer_text s l.k x)
     l.invariant (layers_text-drop s ls l.k x (omega arith) c.index-layers-k.is) refl c.in_err-put_layer.ensures.err)
 
@@ -22,6 +21,6 @@ loop-k-preserved g c =
     let l = c.loop-k in
     let ls = c.args.layers.now in
     let x = c.index-layers-k.result in
-    walked-step (g.S.Sink.output c.args.sink.now) (g.S.Sink.output l.sink) (g.S.Sink.output c.put_layer.new.sink)
+    c.puts_add_up.ensures.step (g.S.Sink.output c.args.sink.now) (g.S.Sink.output l.sink) (g.S.Sink.output c.put_layer.new.sink)
     (layers_text s 0 ls) (layers_text s l.k (drop l.k ls)) (layer_text s l.k x) (layers_text s (l.k + 1) (drop (l.k + 1) ls)) (layer_text s l.k x)
     l.invariant (layers_text-drop s ls l.k x (omega arith) c.index-layers-k.is) refl c.in_ok-put_layer.ensures.ok

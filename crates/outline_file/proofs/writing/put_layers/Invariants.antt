@@ -1,6 +1,6 @@
 use Rattle.std.proofs.Common.{drop}
 use Rattle.outline_file.specs.Outline.{layers_text}
-use Rattle.outline_file.proofs.Walks.{Walked}
+use Rattle.outside.specs.Walks.{Walked}
 use Rattle.outline_file.proofs.writing.put_layers.Given as goal
 
 abbrev pub invariant-loop-k : goal.invariant-loop-k
