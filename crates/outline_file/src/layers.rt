@@ -118,7 +118,7 @@ fn all_layers(
 
 /// Settings and meshes give one answer at most: the outlines of all layers, or no layers, or too many. The
 /// call does nothing.
-pub fn outlines_are_one()
+pub fn one_outcome()
     ensures { (s : Settings) (meshes : List (List Tri)) (a b : Result Outlines OutlineFault) → OutlinesGive s meshes a → OutlinesGive s meshes b → a ≡ b }
 {}
 

@@ -11,5 +11,5 @@ mod tests;
 mod writing;
 
 pub use answers::{MOST_LAYERS, OutlineFault, Outlines};
-pub use layers::{outlines, outlines_are_one};
+pub use layers::{outlines, one_outcome};
 pub use writing::write_file;

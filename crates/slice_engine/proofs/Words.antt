@@ -1,5 +1,5 @@
 -- What words alone give.
-use Rattle.std.proofs.Common.{ℕ, ◌≡◌, List, Option, Some, None, ◌⊎◌, Result, Ok, Err, refl, sym, ◌∙◌, ap, subst, inl, inr}
+use Rattle.std.proofs.Common.{ℕ, ◌≡◌, List, Option, Some, None, ◌⊎◌, Result, Ok, Err, refl, sym, ◌∙◌, ap, subst, inl, inr, arith}
 use Rattle.std.specs.Prelude.{IsSome, option_to_list, ◌++◌, IsOk}
 use Rattle.std.specs.List.{All}
 use Rattle.std.proofs.lemmas.List.Elements.{All-tail}
@@ -13,9 +13,9 @@ use Rattle.outline_file.specs.declared.answers.OutlineFault.{OutlineFault}
 use Rattle.outline_file.specs.declared.answers.OutlineFault.TheVariants as outline
 use Rattle.slice_engine.specs.declared.jobs.Job.{Job}
 use Rattle.slice_engine.specs.Job.{WordsGive, IsWordsAnswer, CommandGives, word_refusal, outline_refusal}
-use Rattle.slice_base.specs.Causes.{Rose}
-use Rattle.outside.specs.Store.{Store}
 use Rattle.cli_words.specs.declared.command.Task.{Task}
+use Rattle.slice_base.specs.Causes.{Rose, counted}
+use Rattle.outside.specs.Store.{Store}
 use Rattle.slice_engine.specs.Answers.{SaysPlanned, HasFailedRead}
 use Rattle.slice_engine.proofs.Plans.{HasOnePlate, HaveOneOutcome, one_task}
 
@@ -77,9 +77,12 @@ one_command (Err fault.NoInput) files a b plates outlines g h = one_answer (Err 
 one_command (Err fault.NoOutput) files a b plates outlines g h = one_answer (Err fault.NoOutput) a b g h
 one_command (Err fault.NoMemory) files a b plates outlines g h = one_answer (Err fault.NoMemory) a b g h
 
+once_more : (before after : ℕ) → after ≡ counted before → Rose before after
+once_more before after once = omega arith
+
 -- a read that failed was counted
 pub failed_rose : (command : Result Command WordFault) (name : List ℕ) (before after : Store) → HasFailedRead command name before after → Rose before.faults after.faults
-failed_rose (Ok (Serial task)) name before after failed = failed.cause
+failed_rose (Ok (Serial task)) name before after failed = once_more before.faults after.faults failed.cause
 failed_rose (Ok (Slice task)) name before after failed = absurd failed
 failed_rose (Ok (Check task)) name before after failed = absurd failed
 failed_rose (Ok (Gen n name')) name before after failed = absurd failed

@@ -8,39 +8,46 @@ use Rattle.answers.specs.declared.refusal.Refusal.TheVariants as refusal
 use Rattle.answers.specs.Said.{said_done, said_refusal}
 use Rattle.cli_words.specs.declared.command.Command.{Command}
 use Rattle.cli_words.specs.declared.command.Command.TheVariants.{Slice, Serial, Check, Gen}
+use Rattle.cli_words.specs.declared.command.Item.{Item}
 use Rattle.cli_words.specs.declared.command.Task.{Task}
 use Rattle.cli_words.specs.declared.command.WordFault.{WordFault}
 use Rattle.cli_words.specs.Command.{command_of}
-use Rattle.plate_input.specs.Answers.{FailedRead, ReadsFew}
+use Rattle.plate_input.specs.Answers.{FailedRead, ReadsAll, ReadsBefore}
 use Rattle.outline_file.specs.Outline.{file_of}
 use Rattle.outline_file.specs.Written.{Wrote, BrokeOff}
 use Rattle.slice_engine.specs.declared.jobs.Job.{Job}
 use Rattle.slice_engine.specs.Job.{JobGives, TaskGives}
 
--- of a command: no file was changed, and no more were read than it names; none at all where the words are
--- at fault or ask for what isn't built
-abbrev pub CommandReads : Result Command WordFault → Store → Store → Type 0
-CommandReads (Ok (Serial task)) before after = ReadsFew task.items before after
-CommandReads (Ok (Slice task)) before after = after ≡ before
-CommandReads (Ok (Check task)) before after = after ≡ before
-CommandReads (Ok (Gen n name)) before after = after ≡ before
-CommandReads (Err f) before after = after ≡ before
+-- how many reads there were before an answer: one for each file that the items name, unless the read of a file
+-- was the last, or memory ran out
+abbrev pub RunReads : Option Refusal → List Item → Store → Store → Type 0
+RunReads None items before after = ReadsAll items before after
+RunReads (Some r) items before after = ReadsBefore r items before after
 
--- the same, of words
-abbrev pub WordsRead : List (List ℕ) → Store → Store → Type 0
-WordsRead words before after = CommandReads (command_of words) before after
+-- the same of a command, which changes no file; the shelf is as before where the words are at fault or ask for
+-- what isn't built
+abbrev pub CommandReads : Result Command WordFault → Option Refusal → Store → Store → Type 0
+CommandReads (Ok (Serial task)) answer before after = RunReads answer task.items before after × (after.files ≡ before.files)
+CommandReads (Ok (Slice task)) answer before after = after ≡ before
+CommandReads (Ok (Check task)) answer before after = after ≡ before
+CommandReads (Ok (Gen n name)) answer before after = after ≡ before
+CommandReads (Err f) answer before after = after ≡ before
 
--- how often the shelf had failed, and how often it has after this answer: a failed read is one failure more
-abbrev pub faults_then : {T : Type 0} → Result T Refusal → ℕ → ℕ
-faults_then (Err (refusal.ReadFault name)) before = counted before
-faults_then answer before = before
+-- the same of words
+abbrev pub WordsRead : List (List ℕ) → Option Refusal → Store → Store → Type 0
+WordsRead words answer before after = CommandReads (command_of words) answer before after
 
--- the same, of the answer of a run
+-- the refusal in an answer
+abbrev pub refusal_in : {T : Type 0} → Result T Refusal → Option Refusal
+refusal_in (Ok x) = None
+refusal_in (Err r) = Some r
+
+-- the shelf's count of faults after the answer of a run: a failed read counts one, and nothing else does
 abbrev pub read_faults : Option Refusal → ℕ → ℕ
 read_faults (Some (refusal.ReadFault name)) before = counted before
 read_faults answer before = before
 
--- the same of the sink: a failed write is one failure more
+-- the same of the sink: a failed write counts one
 abbrev pub write_faults : Option Refusal → ℕ → ℕ
 write_faults (Some refusal.WriteFault) before = counted before
 write_faults answer before = before

@@ -10,5 +10,5 @@ mod top;
 
 pub use answers::{Refusal, Run};
 pub use jobs::Job;
-pub use planning::{jobs_are_one, plan_job};
+pub use planning::{one_job, plan_job};
 pub use top::still_top;

@@ -10,17 +10,17 @@ ghost use Rattle.answers.specs.declared.refusal.Refusal.TheVariants as refusal;
 ghost use Rattle.cli_words.specs.declared.command.Command.TheVariants as command;
 ghost use Rattle.cli_words.specs.declared.command.WordFault.{WordFault};
 ghost use Rattle.cli_words.specs.Command.{command_of, IsTask, task_names};
-ghost use Rattle.plate_input.specs.Answers.{ReadsFew};
+ghost use Rattle.plate_input.specs.Answers.{ReadsFiles, faults_after_reads};
 ghost use Rattle.slice_engine.specs.declared.jobs.Job.{Job};
 ghost use Rattle.slice_engine.specs.Job.{JobGives, WordsGive, word_refusal, outline_refusal};
-ghost use Rattle.slice_engine.specs.Answers.{WordsRead, SaysJob, SaysTask, faults_then};
+ghost use Rattle.slice_engine.specs.Answers.{WordsRead, SaysJob, SaysTask, refusal_in};
 
 use crate::jobs::Job;
 use answers::Refusal;
 use cli_words::{Command, Task, WordFault, read_words};
-use outline_file::{OutlineFault, outlines, outlines_are_one};
+use outline_file::{OutlineFault, outlines, one_outcome};
 use outside::Shelf;
-use plate_input::{Plate, plates_are_one, read_plate};
+use plate_input::{Plate, one_plate, read_plate};
 use std::alloc::Global;
 
 fn refusal_of_words(fault: WordFault) -> Refusal
@@ -66,8 +66,9 @@ fn plan_task<Sh: Shelf>(alloc: Global, task: Task, shelf: &mut Sh) -> Result<Job
     requires writes { IsSome task.out }
     requires names { All IsUtf8 (task_names task) }
     ensures says { SaysTask result task (Sh.store shelf.old) (Sh.store shelf.new) }
-    ensures faults { (Sh.store shelf.new).faults ≡ faults_then result (Sh.store shelf.old).faults }
-    ensures reads { ReadsFew task.items (Sh.store shelf.old) (Sh.store shelf.new) }
+    ensures faults { (Sh.store shelf.new).faults ≡ faults_after_reads result (Sh.store shelf.old).faults }
+    ensures reads { ReadsFiles result task.items (Sh.store shelf.old) (Sh.store shelf.new) }
+    ensures files { (Sh.store shelf.new).files ≡ (Sh.store shelf.old).files }
     ensures valid { IfOk result (λ job. IsValid job.settings) }
     ensures few { IfOk result (λ job. length job.outlines.layers ≤ 10000) }
 {
@@ -96,8 +97,8 @@ fn plan_task<Sh: Shelf>(alloc: Global, task: Task, shelf: &mut Sh) -> Result<Job
 fn plan_words<Sh: Shelf>(alloc: Global, words: &[String], shelf: &mut Sh) -> Result<Job, Refusal>
     ensures says { SaysJob result (map string_bytes words.now) (Sh.store shelf.old) (Sh.store shelf.new) }
     ensures word { (f : WordFault) → command_of (map string_bytes words.now) ≡ Err f → result ≡ Err (word_refusal f) }
-    ensures faults { (Sh.store shelf.new).faults ≡ faults_then result (Sh.store shelf.old).faults }
-    ensures reads { WordsRead (map string_bytes words.now) (Sh.store shelf.old) (Sh.store shelf.new) }
+    ensures faults { (Sh.store shelf.new).faults ≡ faults_after_reads result (Sh.store shelf.old).faults }
+    ensures reads { WordsRead (map string_bytes words.now) (refusal_in result) (Sh.store shelf.old) (Sh.store shelf.new) }
     ensures valid { IfOk result (λ job. IsValid job.settings) }
     ensures few { IfOk result (λ job. length job.outlines.layers ≤ 10000) }
 {
@@ -108,11 +109,11 @@ fn plan_words<Sh: Shelf>(alloc: Global, words: &[String], shelf: &mut Sh) -> Res
 }
 
 /// Words and told files define one job, or one refusal. The call does nothing.
-pub fn jobs_are_one()
+pub fn one_job()
     ensures { (words : List (List ℕ)) (files : List (List ℕ × List ℕ)) (a b : Result Job Refusal) → JobGives words (Some files) a → JobGives words (Some files) b → a ≡ b }
 {
-    plates_are_one();
-    outlines_are_one();
+    one_plate();
+    one_outcome();
 }
 
 /// The job that the words and the files of the shelf define, or the first refusal. The words are
@@ -131,11 +132,11 @@ pub fn plan_job<Sh: Shelf>(alloc: Global, words: &[String], shelf: &mut Sh) -> R
     ensures word { (f : WordFault) → command_of (map string_bytes words.now) ≡ Err f → result ≡ Err (word_refusal f) }
 
     // The shelf failed once where the answer is a failed read, and else not at all.
-    ensures faults { (Sh.store shelf.new).faults ≡ faults_then result (Sh.store shelf.old).faults }
-    ensures reads { WordsRead (map string_bytes words.now) (Sh.store shelf.old) (Sh.store shelf.new) }
+    ensures faults { (Sh.store shelf.new).faults ≡ faults_after_reads result (Sh.store shelf.old).faults }
+    ensures reads { WordsRead (map string_bytes words.now) (refusal_in result) (Sh.store shelf.old) (Sh.store shelf.new) }
     ensures valid { IfOk result (λ job. IsValid job.settings) }
     ensures few { IfOk result (λ job. length job.outlines.layers ≤ 10000) }
 {
-    jobs_are_one();
+    one_job();
     plan_words(alloc, words, shelf)
 }

@@ -8,12 +8,13 @@ ghost use Rattle.answers.specs.Statuses.{status_of};
 ghost use Rattle.cli_words.specs.declared.command.WordFault.{WordFault};
 ghost use Rattle.cli_words.specs.declared.command.WordFault.TheVariants as fault;
 ghost use Rattle.cli_words.specs.Command.{command_of};
+ghost use Rattle.plate_input.specs.Answers.{faults_after_reads};
 ghost use Rattle.slice_engine.specs.declared.jobs.Job.{Job};
 ghost use Rattle.slice_engine.specs.Job.{JobGives, word_refusal};
-ghost use Rattle.slice_engine.specs.Answers.{WordsRead, SaysWritten, Says, faults_then, read_faults, write_faults};
+ghost use Rattle.slice_engine.specs.Answers.{WordsRead, SaysWritten, Says, refusal_in, read_faults, write_faults};
 
 use crate::jobs::Job;
-use crate::planning::{jobs_are_one, plan_job};
+use crate::planning::{one_job, plan_job};
 use crate::telling::tell;
 use answers::{Refusal, Run};
 use outline_file::write_file;
@@ -37,8 +38,8 @@ fn plan_and_write<Sh: Shelf, Si: Sink>(
         → JobGives (map string_bytes words.now) (Some files) (Err r)
         → ¬ (Rose (Sh.store shelf.old).faults (Sh.store shelf.new).faults)
         → (result.0 ≡ Err r) ⊎ (result.0 ≡ Err refusal.NoMemory) }
-    ensures faults { (Sh.store shelf.new).faults ≡ faults_then result.0 (Sh.store shelf.old).faults }
-    ensures reads { WordsRead (map string_bytes words.now) (Sh.store shelf.old) (Sh.store shelf.new) }
+    ensures faults { (Sh.store shelf.new).faults ≡ faults_after_reads result.0 (Sh.store shelf.old).faults }
+    ensures reads { WordsRead (map string_bytes words.now) (refusal_in result.0) (Sh.store shelf.old) (Sh.store shelf.new) }
 {
     let job = match plan_job(alloc, words, shelf) {
         Ok(job) => job,
@@ -101,10 +102,11 @@ pub fn still_top<Sh: Shelf, Si: Sink, Co: Sink>(
     ensures read_faults { (Sh.store shelf.new).faults ≡ read_faults result.0.refusal (Sh.store shelf.old).faults }
     ensures write_faults { (Si.output result.1).faults ≡ write_faults result.0.refusal (Si.output sink).faults }
 
-    // No file is changed, and no more are read than the words name; none where the words are at fault.
-    ensures reads { WordsRead (map string_bytes words.now) (Sh.store shelf.old) (Sh.store shelf.new) }
+    // No file is changed. Each file that the words name is read once for each time that it is named, up to one
+    // whose read failed or that is too long; none where the words are at fault.
+    ensures reads { WordsRead (map string_bytes words.now) result.0.refusal (Sh.store shelf.old) (Sh.store shelf.new) }
 {
-    jobs_are_one();
+    one_job();
     let (ended, sink) = plan_and_write(alloc, words, shelf, sink);
     let refusal = tell(console, ended);
     (Run::of(refusal), sink)
