@@ -1,5 +1,5 @@
 -- A sink that was begun, filled and ended.
-use Rattle.std.proofs.Common.{ℕ, ◌≡◌, ◌≤◌, true, false, List, length, Option, Some, None, sym, ◌∙◌, ap, subst, inl, inr, arith, Result, Ok, Err, OnOk, OnErr}
+use Rattle.std.proofs.Common.{ℕ, ◌≡◌, true, false, List, length, Option, Some, None, sym, ◌∙◌, ap, subst, inl, inr, arith, Result, Ok, Err, OnOk, OnErr}
 use Rattle.std.proofs.Math.Seq.{take-length}
 use Rattle.slice_base.specs.Causes.{counted}
 use Rattle.outside.specs.Faults.{faults_after}

@@ -11,5 +11,5 @@ mod tests;
 mod writing;
 
 pub use answers::{MOST_LAYERS, OutlineFault, Outlines};
-pub use layers::{outlines, one_outcome};
+pub use layers::{one_outcome, outlines};
 pub use writing::write_file;
