@@ -1,12 +1,12 @@
 // What the program says of itself: its words, the table of settings, its version.
 
 ghost use Rattle.std.specs.Prelude.{◌≡◌, ◌⊎◌, map, string_bytes};
-ghost use Rattle.slice_base.specs.Causes.{Rose};
-ghost use Rattle.outside.specs.Output.{OnlyPut, Put, PutFront};
+ghost use Rattle.outside.specs.Output.{Put, PutFront};
 ghost use Rattle.cura_slice.specs.Help.{has_word, topic_of};
+ghost use Rattle.cura_slice.specs.Telling.{Told};
 
+use crate::listing::listing;
 use outside::{Sink, put_all};
-use settings_core::{Group, SETTINGS, Setting};
 use slice_base::NoMemory;
 use std::alloc::Global;
 
@@ -67,8 +67,11 @@ rattle-kit-13f logic dac8208d650f15bf
 /// What a command line may ask of the program itself.
 #[derive(Clone, Copy, PartialEq, Eq, Debug)]
 pub enum Topic {
+    /// Its words and statuses.
     Usage,
+    /// The table of settings.
     Settings,
+    /// Its version, and the toolchain's.
     Version,
 }
 
@@ -95,70 +98,29 @@ pub fn asked(words: &[String]) -> Option<Topic>
     None
 }
 
-/// Puts what is known of the topic on the console. The answer is the program's status: 0, or 6 where
-/// there was no memory, or 7 where the console failed.
+/// Puts the whole text of the topic on the console. The answer is the program's status: 0; or 7 where
+/// the console failed, and has got a front of the text; or 6 where there was no memory for the table of
+/// settings, and the console is as before.
 pub fn tell<Co: Sink>(alloc: Global, topic: Topic, console: &mut Co) -> u8
-    ensures failed { result ≡ 7 → Rose (Co.output console.old).faults (Co.output console.new).faults }
-    ensures only { OnlyPut (Co.output console.old) (Co.output console.new) }
+    ensures { Told result topic (Co.output console.old) (Co.output console.new) }
 {
-    let Ok(text) = text(alloc, topic) else {
-        return 6;
-    };
-    say(console, text.as_str())
+    match topic {
+        Topic::Usage => say(console, USAGE.as_bytes()),
+        Topic::Settings => match listing(alloc) {
+            Ok(text) => say(console, text.bytes()),
+            Err(NoMemory) => 6,
+        },
+        Topic::Version => say(console, VERSION.as_bytes()),
+    }
 }
 
 // Puts a text on the console. The answer is the program's status.
-fn say<Co: Sink>(console: &mut Co, text: &str) -> u8
+fn say<Co: Sink>(console: &mut Co, text: &[u8]) -> u8
     ensures { ((result ≡ 0) × Put (Co.output console.old) text.now (Co.output console.new))
         ⊎ ((result ≡ 7) × PutFront (Co.output console.old) text.now (Co.output console.new)) }
 {
-    match put_all(console, text.as_bytes()) {
+    match put_all(console, text) {
         Ok(()) => 0,
         Err(_) => 7,
     }
-}
-
-fn text(alloc: Global, topic: Topic) -> Result<String, NoMemory> {
-    match topic {
-        Topic::Usage => Ok(String::from_str(alloc, USAGE)?),
-        Topic::Settings => table(alloc),
-        Topic::Version => Ok(String::from_str(alloc, VERSION)?),
-    }
-}
-
-fn heading(group: Group) -> &'static str {
-    match group {
-        Group::Global => "\nglobal: of the whole print\n",
-        Group::Extruder => "\nextruder: of one extruder; given for the whole print, of all\n",
-        Group::Mesh =>
-            "\nmesh: of one mesh; given for an extruder or the whole print, of all its meshes\n",
-    }
-}
-
-// All settings, each in two lines, under the names of their groups.
-fn table(alloc: Global) -> Result<String, NoMemory> {
-    let mut text = String::from_str(alloc, "Name, unit, range and default of each setting.\n")?;
-    let mut before = None;
-    for setting in SETTINGS {
-        let group = setting.group();
-        if before != Some(group) {
-            text.push_str(heading(group))?;
-        }
-        push_setting(alloc, &mut text, setting)?;
-        before = Some(group);
-    }
-    Ok(text)
-}
-
-fn push_setting(alloc: Global, text: &mut String, setting: Setting) -> Result<(), NoMemory> {
-    let row = setting.row(alloc)?;
-    let unit = if row.unit.is_empty() { "-" } else { row.unit };
-    text.push_str(&format!(in alloc;
-        "  {:<30}  {:<4}  {:<19}  {}\n",
-        row.name, unit, row.range, row.default
-    )?)?;
-    text.push_str("      ")?;
-    text.push_str(row.meaning)?;
-    text.push_str("\n")?;
-    Ok(())
 }

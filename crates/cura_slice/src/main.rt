@@ -8,6 +8,7 @@ mod boxes;
 mod help;
 #[cfg(test)]
 mod help_tests;
+mod listing;
 #[cfg(test)]
 mod meshes;
 #[cfg(test)]
