@@ -44,12 +44,23 @@ as_job r x e = cc
 same_out : (out : Option (List ℕ)) (a b : List ℕ) → out ≡ Some a → out ≡ Some b → a ≡ b
 same_out out a b e f = cc
 
+abbrev job_with : List ℕ → Settings → Outlines → Job
+job_with output s o = record { output = output; settings = s; outlines = o }
+
 same_job : (j k : Job) → j.output ≡ k.output → j.settings ≡ k.settings → j.outlines ≡ k.outlines → j ≡ k
-same_job j k output settings outlines = cc
+same_job j k output settings outlines =
+    subst (λ x. job_with x j.settings j.outlines ≡ k) (sym output) (subst (λ x. job_with k.output x j.outlines ≡ k) (sym settings) (subst (λ x. job_with k.output k.settings x ≡ k) (sym outlines) refl))
 
 -- the outcome of a plate is that of the same plate
 of_same : (p q : Plate) (a : Result Outlines OutlineFault) → p ≡ q → OutlinesGive q.settings q.meshes a → OutlinesGive p.settings p.meshes a
 of_same p q a same g = subst (λ x. OutlinesGive x.settings x.meshes a) (sym same) g
+
+-- no job is defined beside a refusal
+not_both : (task : Task) (files : List (List ℕ × List ℕ)) (j : Job) (r : Refusal) → HasOnePlate task files → HaveOneOutcome → TaskGives task (Some files) (Ok j) → TaskGives task (Some files) (Err r) → ⊥
+not_both task files j r plates lines x (inl p) = no_plate r x.plate (plates (Ok x.plate) (Err r) x.reads p)
+not_both task files j r plates lines x (inr u) =
+    let same = same_plate x.plate u.plate (plates (Ok x.plate) (Ok u.plate) x.reads u.reads) in
+    no_outlines j.outlines u.cause (lines x.plate.settings x.plate.meshes (Ok j.outlines) (Err u.cause) x.outlines (of_same x.plate u.plate (Err u.cause) same u.outlines))
 
 -- a task and told files define one job, or one refusal
 pub one_task : (task : Task) (files : List (List ℕ × List ℕ)) (a b : Result Job Refusal) → HasOnePlate task files → HaveOneOutcome → TaskGives task (Some files) a → TaskGives task (Some files) b → a ≡ b
@@ -59,11 +70,8 @@ one_task task files (Ok j) (Ok k) plates lines x y =
     (same_out task.out j.output k.output x.output y.output)
     (x.settings ∙ ap (λ p. p.settings) same ∙ sym y.settings)
     (same_outlines j.outlines k.outlines (lines x.plate.settings x.plate.meshes (Ok j.outlines) (Ok k.outlines) x.outlines (of_same x.plate y.plate (Ok k.outlines) same y.outlines))))
-one_task task files (Ok j) (Err r) plates lines x (inl p) = absurd (no_plate r x.plate (plates (Ok x.plate) (Err r) x.reads p))
-one_task task files (Ok j) (Err r) plates lines x (inr u) =
-    let same = same_plate x.plate u.plate (plates (Ok x.plate) (Ok u.plate) x.reads u.reads) in
-    absurd (no_outlines j.outlines u.cause (lines x.plate.settings x.plate.meshes (Ok j.outlines) (Err u.cause) x.outlines (of_same x.plate u.plate (Err u.cause) same u.outlines)))
-one_task task files (Err r) (Ok k) plates lines x y = sym (one_task task files (Ok k) (Err r) plates lines y x)
+one_task task files (Ok j) (Err r) plates lines x y = absurd (not_both task files j r plates lines x y)
+one_task task files (Err r) (Ok k) plates lines x y = absurd (not_both task files k r plates lines y x)
 one_task task files (Err r) (Err s) plates lines (inl p) (inl q) = as_job r s (plates (Err r) (Err s) p q)
 one_task task files (Err r) (Err s) plates lines (inl p) (inr v) = absurd (no_plate r v.plate (plates (Ok v.plate) (Err r) v.reads p))
 one_task task files (Err r) (Err s) plates lines (inr u) (inl q) = absurd (no_plate s u.plate (plates (Ok u.plate) (Err s) u.reads q))

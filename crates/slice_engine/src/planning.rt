@@ -18,7 +18,7 @@ ghost use Rattle.slice_engine.specs.Answers.{WordsRead, SaysJob, SaysTask, refus
 use crate::jobs::Job;
 use answers::Refusal;
 use cli_words::{Command, Task, WordFault, read_words};
-use outline_file::{OutlineFault, outlines, one_outcome};
+use outline_file::{OutlineFault, one_outcome, outlines};
 use outside::Shelf;
 use plate_input::{Plate, one_plate, read_plate};
 use std::alloc::Global;
