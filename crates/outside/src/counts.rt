@@ -16,6 +16,8 @@ pub(crate) struct ShelfCounts {
 
 impl ShelfCounts {
     ghost use Rattle.outside.specs.Counts.{no_reads};
+    ghost use Rattle.outside.specs.Faults.{faults_after_read};
+    ghost use Rattle.outside.specs.Files.{last_failed_of};
 
     pub(crate) fn new() -> Self
         ensures { result ≡ no_reads }
@@ -43,6 +45,22 @@ impl ShelfCounts {
         self.faults = self.faults.saturating_add(1);
         self.last_failed = Some(name);
         ReadNo::Failed
+    }
+
+    // What a read of that name answered, which counts where it failed.
+    pub(crate) fn answered<T: Drop>(
+        &mut self,
+        name: Text,
+        answer: Result<T, ReadNo>,
+    ) -> Result<T, ReadNo>
+        ensures same { result ≡ answer }
+        ensures counts { self.new ≡ record self.old { last_failed = last_failed_of answer name self.old.last_failed; faults = faults_after_read answer self.old.faults } }
+        ensures later { self.old.faults ≤ self.new.faults }
+    {
+        match answer {
+            Err(ReadNo::Failed) => Err(self.fail(name)),
+            _ => answer,
+        }
     }
 }
 

@@ -1,15 +1,15 @@
 // Files of the folder that the program runs in. This is a trusted edge: which file a name opens isn't
 // claimed. What is claimed holds of any file that tells its bytes.
 
-ghost use Rattle.std.specs.Prelude.{◌≡◌, ◌<◌, ◌≤◌, length, IfOk, IfSome, IsErrOf};
+ghost use Rattle.std.specs.Prelude.{◌≡◌, ◌<◌, ◌≤◌, length, IfOk, IfSome, IsErr, IsErrOf, IsOk, OnOk};
 
 use crate::counts::ShelfCounts;
 use crate::shelves::{ReadNo, Shelf};
 use slice_base::Text;
 use std::alloc::Global;
-use std::fs;
 use std::io::{ErrorKind, Read};
 use std::rt::Files;
+use std::{fs, io};
 
 /// A shelf of the folder that the program runs in. It doesn't tell its files. That a read answers all
 /// bytes of the opened file is proved, where that file tells them.
@@ -42,6 +42,24 @@ fn read_rest<F: Read + Drop>(alloc: Global, file: F, limit: usize) -> Result<Vec
     }
 }
 
+// The bytes of a file, where it was opened.
+fn read_opened<F: Read + Drop>(
+    alloc: Global,
+    opened: io::Result<F>,
+    limit: usize,
+) -> Result<Vec<u8>, ReadNo>
+    ensures opened { OnOk result (IsOk opened) }
+    ensures whole { IfOk result (λ bytes. IfOk opened (λ file. IfSome (F.remaining file) (λ xs. bytes.items ≡ xs))) }
+    ensures within { IfOk result (λ bytes. length bytes.items ≤ limit) }
+    ensures failed { IsErr opened → IsErrOf result ReadNo.Failed }
+    ensures too_long { IsErrOf result ReadNo.TooLong → IfOk opened (λ file. IfSome (F.remaining file) (λ xs. limit < length xs)) }
+{
+    match opened {
+        Err(_) => Err(ReadNo::Failed),
+        Ok(file) => read_rest(alloc, file, limit),
+    }
+}
+
 fn read_file<R: Files>(
     alloc: Global,
     files: &R,
@@ -50,10 +68,7 @@ fn read_file<R: Files>(
 ) -> Result<Vec<u8>, ReadNo>
     ensures { IfOk result (λ bytes. length bytes.items ≤ limit) }
 {
-    match fs::open(files, name) {
-        Err(_) => Err(ReadNo::Failed),
-        Ok(file) => read_rest(alloc, file, limit),
-    }
+    read_opened(alloc, fs::open(files, name), limit)
 }
 
 impl<R: Files> DirShelf<R> {
@@ -78,12 +93,8 @@ impl<R: Files> Shelf for DirShelf<R> {
     fn read(&mut self, alloc: Global, name: &str, limit: usize) -> Result<Vec<u8>, ReadNo> {
         self.counts.read();
         let called = Text::of(alloc, name.as_bytes())?;
-        match read_file(alloc, &self.files, name, limit) {
-            Ok(bytes) => Ok(bytes),
-            Err(ReadNo::TooLong) => Err(ReadNo::TooLong),
-            Err(ReadNo::NoMemory) => Err(ReadNo::NoMemory),
-            Err(ReadNo::Failed) => Err(self.counts.fail(called)),
-        }
+        let answer = read_file(alloc, &self.files, name, limit);
+        self.counts.answered(called, answer)
     }
 
     fn faults(&self) -> u64 {

@@ -1,9 +1,10 @@
 // A file that is written. This is a trusted edge: what a device keeps of the bytes that it took isn't
 // claimed. What is claimed holds of any file that tells its bytes.
 
-ghost use Rattle.std.specs.Prelude.{◌≡◌, ◌≤◌, None, [], length, IfOk, IfSome, OnOk, OnErr};
+ghost use Rattle.std.specs.Prelude.{◌≡◌, ◌≤◌, true, None, [], length, IfOk, IfSome, OnOk, OnErr};
 ghost use Rattle.slice_base.specs.Causes.{HasCause, counted};
 ghost use Rattle.std.specs.Io.Buffered.{writer_buffer};
+ghost use Rattle.std.specs.Fs.{new_options, with_create, with_truncate, with_write};
 
 use crate::counts::SinkCounts;
 use crate::sinks::Sink;
@@ -26,16 +27,23 @@ pub struct FileSink<R: Files + AllocGlobal> {
     counts: SinkCounts,
 }
 
+// How a file is opened: to be written, made where it isn't there, and emptied where it is.
+fn written_over() -> fs::OpenOptions
+    ensures { result ≡ with_truncate (with_create (with_write new_options true) true) true }
+{
+    let mut how = fs::OpenOptions::new();
+    how.write(true);
+    how.create(true);
+    how.truncate(true);
+    how
+}
+
 // Opens the file of that name, and empties it.
 fn open<R: Files + AllocGlobal>(rt: &R, name: &[u8]) -> Option<BufWriter<R::File>>
     ensures { IfSome result (λ out. writer_buffer out ≡ []) }
 {
     let path = str::from_utf8(name).ok()?;
-    let mut how = fs::OpenOptions::new();
-    how.write(true);
-    how.create(true);
-    how.truncate(true);
-    let file = how.open(rt, path).ok()?;
+    let file = written_over().open(rt, path).ok()?;
     BufWriter::with_capacity(rt.alloc(), BUFFER, file).ok()
 }
 

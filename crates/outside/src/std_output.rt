@@ -1,10 +1,13 @@
 // Standard output. This is a trusted edge: nothing is claimed of what it shows.
 
-ghost use Rattle.std.specs.Prelude.{◌≡◌, IsOk};
+ghost use Rattle.std.specs.Prelude.{◌≡◌, ◌<◌, ◌≤◌, Ok, IfOk, IsOk, OnErr};
+ghost use Rattle.slice_base.specs.Causes.{HasCause};
+ghost use Rattle.outside.specs.Faults.{faults_after};
 
 use crate::counts::SinkCounts;
 use crate::sinks::Sink;
 use slice_base::{Failed, Text};
+use std::io;
 
 /// A sink that writes to standard output, each piece at once. It doesn't tell its bytes, and keeps
 /// the name that it is begun under for itself.
@@ -12,6 +15,19 @@ use slice_base::{Failed, Text};
 pub struct OutSink<R: Print> {
     out: R,
     counts: SinkCounts,
+}
+
+// What a write answered, which counts as a fault where it took nothing.
+fn taken(counts: &mut SinkCounts, answer: io::Result<usize>) -> Result<usize, Failed>
+    ensures some { IfOk result (λ n. (0 < n) × (answer ≡ Ok n)) }
+    ensures none { OnErr result (IfOk answer (λ n. n ≡ 0)) }
+    ensures counts { counts.new ≡ record counts.old { faults = faults_after result counts.old.faults } }
+    ensures cause { HasCause counts.old.faults counts.new.faults result }
+{
+    match answer {
+        Ok(count) if count > 0 => Ok(count),
+        _ => Err(counts.fail()),
+    }
 }
 
 impl<R: Print> OutSink<R> {
@@ -44,10 +60,8 @@ impl<R: Print> Sink for OutSink<R> {
     }
 
     fn put(&mut self, piece: &[u8]) -> Result<usize, Failed> {
-        match self.out.write_some(piece) {
-            Ok(count) if count > 0 => Ok(count),
-            _ => Err(self.counts.fail()),
-        }
+        let answer = self.out.write_some(piece);
+        taken(&mut self.counts, answer)
     }
 
     fn end(&mut self) -> Result<(), Failed>
