@@ -19,10 +19,11 @@ mod words;
 
 use outside::{DirShelf, FileSink, OutSink};
 use slice_engine::still_top;
+use std::io;
 use std::process::ExitCode;
 
 fn main(rt: HostRuntime) -> ExitCode {
-    let mut console = OutSink::of(&rt);
+    let mut console = OutSink::of(io::writer(&rt));
     let words = match words::given(&rt) {
         Ok(words) => words,
         Err(refusal) => return ExitCode::from(words::refuse(refusal, &mut console)),

@@ -1,7 +1,8 @@
 // Files of the folder that the program runs in. This is a trusted edge: which file a name opens isn't
 // claimed. What is claimed holds of any file that tells its bytes.
 
-ghost use Rattle.std.specs.Prelude.{◌≡◌, ◌<◌, ◌≤◌, length, IfOk, IfSome, IsErr, IsErrOf, IsOk, OnOk};
+ghost use Rattle.outside.specs.Real.{told_of};
+ghost use Rattle.std.specs.Prelude.{◌≡◌, ◌<◌, ◌≤◌, Ok, length, IfOk, IfSome, IsErr, IsErrOf};
 
 use crate::counts::ShelfCounts;
 use crate::shelves::{ReadNo, Shelf};
@@ -11,8 +12,9 @@ use std::io::{ErrorKind, Read};
 use std::rt::Files;
 use std::{fs, io};
 
-/// A shelf of the folder that the program runs in. It doesn't tell its files. That a read answers all
-/// bytes of the opened file is proved, where that file tells them.
+/// A shelf of the folder that the program runs in. It doesn't tell its files. Of a file that was opened
+/// and tells its bytes is proved: a read answers all of them, and that it is too long only where they
+/// pass the limit.
 #[derive(Drop)]
 pub struct DirShelf<R: Files> {
     files: R,
@@ -28,13 +30,17 @@ fn read_rest<F: Read + Drop>(alloc: Global, file: F, limit: usize) -> Result<Vec
 {
     let mut front = file.take((limit as u64).saturating_add(1));
     let mut bytes = Vec::new(alloc);
-    match front.read_to_end(&mut bytes) {
-        Ok(_) => {
-            if bytes.len() > limit {
-                return Err(ReadNo::TooLong);
-            }
-            Ok(bytes)
-        }
+    let answer = front.read_to_end(&mut bytes);
+    answered(answer, bytes, limit)
+}
+
+// What is told of the bytes that a file gave, of which `limit` at most are wanted.
+fn answered(answer: io::Result<usize>, bytes: Vec<u8>, limit: usize) -> Result<Vec<u8>, ReadNo>
+    ensures { result ≡ told_of answer bytes limit }
+{
+    match answer {
+        Ok(_) if bytes.len() > limit => Err(ReadNo::TooLong),
+        Ok(_) => Ok(bytes),
         Err(e) => Err(match e.kind() {
             ErrorKind::OutOfMemory => ReadNo::NoMemory,
             _ => ReadNo::Failed,
@@ -48,11 +54,10 @@ fn read_opened<F: Read + Drop>(
     opened: io::Result<F>,
     limit: usize,
 ) -> Result<Vec<u8>, ReadNo>
-    ensures opened { OnOk result (IsOk opened) }
-    ensures whole { IfOk result (λ bytes. IfOk opened (λ file. IfSome (F.remaining file) (λ xs. bytes.items ≡ xs))) }
+    ensures whole { IfOk result (λ bytes. (file : F) × (opened ≡ Ok file) × IfSome (F.remaining file) (λ xs. bytes.items ≡ xs)) }
     ensures within { IfOk result (λ bytes. length bytes.items ≤ limit) }
     ensures failed { IsErr opened → IsErrOf result ReadNo.Failed }
-    ensures too_long { IsErrOf result ReadNo.TooLong → IfOk opened (λ file. IfSome (F.remaining file) (λ xs. limit < length xs)) }
+    ensures too_long { IsErrOf result ReadNo.TooLong → (file : F) × (opened ≡ Ok file) × IfSome (F.remaining file) (λ xs. limit < length xs) }
 {
     match opened {
         Err(_) => Err(ReadNo::Failed),
@@ -66,7 +71,9 @@ fn read_file<R: Files>(
     name: &str,
     limit: usize,
 ) -> Result<Vec<u8>, ReadNo>
-    ensures { IfOk result (λ bytes. length bytes.items ≤ limit) }
+    ensures whole { IfOk result (λ bytes. (file : R.File) × IfSome (R.File.remaining file) (λ xs. bytes.items ≡ xs)) }
+    ensures within { IfOk result (λ bytes. length bytes.items ≤ limit) }
+    ensures too_long { IsErrOf result ReadNo.TooLong → (file : R.File) × IfSome (R.File.remaining file) (λ xs. limit < length xs) }
 {
     read_opened(alloc, fs::open(files, name), limit)
 }
@@ -87,10 +94,19 @@ impl<R: Files> DirShelf<R> {
 
 impl<R: Files> Shelf for DirShelf<R> {
     ghost use Rattle.outside.specs.Counts.{untold_store};
+    ghost use Rattle.outside.specs.Steps.{after_read};
+    ghost use Rattle.slice_base.specs.Causes.{Rose};
 
     ghost store = { λ s. untold_store s.counts };
 
-    fn read(&mut self, alloc: Global, name: &str, limit: usize) -> Result<Vec<u8>, ReadNo> {
+    fn read(&mut self, alloc: Global, name: &str, limit: usize) -> Result<Vec<u8>, ReadNo>
+        ensures within { IfOk result (λ bytes. length bytes.items ≤ limit) }
+        ensures store { untold_store self.new.counts ≡ after_read name.now result (untold_store self.old.counts) }
+        ensures cause { IsErrOf result ReadNo.Failed → Rose self.old.counts.faults self.new.counts.faults }
+        ensures later { self.old.counts.faults ≤ self.new.counts.faults }
+        ensures whole { IfOk result (λ bytes. (file : R.File) × IfSome (R.File.remaining file) (λ xs. bytes.items ≡ xs)) }
+        ensures over { IsErrOf result ReadNo.TooLong → (file : R.File) × IfSome (R.File.remaining file) (λ xs. limit < length xs) }
+    {
         self.counts.read();
         let called = Text::of(alloc, name.as_bytes())?;
         let answer = read_file(alloc, &self.files, name, limit);
