@@ -11,8 +11,8 @@ use std::io::{ErrorKind, Read};
 use std::rt::Files;
 use std::{fs, io};
 
-/// A shelf of the folder that the program runs in. It doesn't tell its files. That all bytes of the
-/// opened file are answered is proved of `read_opened`, where that file tells them.
+/// A shelf of the folder that the program runs in. It doesn't tell its files. That a read answers all
+/// bytes of the opened file is proved, where that file tells them.
 #[derive(Drop)]
 pub struct DirShelf<R: Files> {
     files: R,
