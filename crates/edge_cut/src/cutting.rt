@@ -123,8 +123,8 @@ fn cut_in_passes(alloc: Global, edges: &[Marked]) -> Result<Vec<Marked>, CutFaul
 }
 
 /// The pieces of these edges after four passes, in each of which every edge is cut where it meets
-/// another one. Edges without length are left out. `TooTangled` comes exactly where the definition
-/// says so.
+/// another one. Edges without length are left out. Unless memory runs out, `TooTangled` comes exactly
+/// where the definition says so.
 pub fn cut(alloc: Global, edges: &[Marked]) -> Result<Vec<Marked>, CutFault>
     ensures answer { MatchResult result (λ list. cut_of edges.now ≡ Ok list.items) (λ fault. IsCutFault (cut_of edges.now) fault) }
     ensures few { IfOk result (λ list. length list.items ≤ 100000) }

@@ -136,7 +136,7 @@ pub fn outlines(
     requires each_few { All (λ m. length m < 2 ^ 32) meshes.now }
     ensures says { (result ≡ Err OutlineFault.NoMemory) ⊎ OutlinesGive settings.now meshes.now result }
 
-    // They give one answer, so it is the result unless memory ran out.
+    // They give one answer at most, so it is the result unless memory ran out.
     ensures one { (a : Result Outlines OutlineFault) → OutlinesGive settings.now meshes.now a → (result ≡ a) ⊎ (result ≡ Err OutlineFault.NoMemory) }
     ensures no_layers { (result ≡ Err OutlineFault.NoLayers) ↔ IsLayerCount settings.now (top_of_all meshes.now) 0 }
     ensures too_many { (n : ℕ) → (result ≡ Err (OutlineFault.TooManyLayers n)) ↔ (IsLayerCount settings.now (top_of_all meshes.now) n × (10000 < n)) }

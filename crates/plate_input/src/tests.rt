@@ -94,7 +94,7 @@ fn refusal_text(alloc: Global, refusal: &Refusal) -> Result<String, AllocError> 
     }
 }
 
-// The layer height, and the least x of each mesh's first corner.
+// The layer height, and the x of each triangle's first corner.
 fn plate_text(alloc: Global, plate: &Plate) -> Result<String, AllocError> {
     let height = plate.settings.layer_height;
     let mut text = format!(in alloc; "{height}")?;

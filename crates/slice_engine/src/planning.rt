@@ -108,7 +108,7 @@ fn plan_words<Sh: Shelf>(alloc: Global, words: &[String], shelf: &mut Sh) -> Res
     }
 }
 
-/// Words and told files define one job, or one refusal. The call does nothing.
+/// Words and told files define one job, or one refusal, at most. The call does nothing.
 pub fn one_job()
     ensures { (words : List (List ℕ)) (files : List (List ℕ × List ℕ)) (a b : Result Job Refusal) → JobGives words (Some files) a → JobGives words (Some files) b → a ≡ b }
 {

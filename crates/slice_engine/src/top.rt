@@ -93,7 +93,7 @@ pub fn still_top<Sh: Shelf, Si: Sink, Co: Sink>(
         → ¬ (Rose (Sh.store shelf.old).faults (Sh.store shelf.new).faults)
         → (result.0.refusal ≡ Some r) ⊎ (result.0.refusal ≡ Some refusal.NoMemory) }
 
-    // Words and told files define one job, or one refusal.
+    // Words and told files define one job, or one refusal, at most.
     ensures only { (files : List (List ℕ × List ℕ)) (a b : Result Job Refusal) → JobGives (map string_bytes words.now) (Some files) a
         → JobGives (map string_bytes words.now) (Some files) b → a ≡ b }
 

@@ -1,5 +1,6 @@
 // Reads ASCII STL. What goes in are the bytes of a file; what comes out are the triangles that the
-// grammar in `specs/Mesh.antt` gives them, or the number of the first line at fault.
+// grammar in `specs/Mesh.antt` gives them, or the number of the first line at fault, or of facets where
+// they are too many.
 #![tactic(auto)]
 
 mod faults;
