@@ -23,9 +23,6 @@ IsUnder d (Some b) = d < b.squared
 le_if : (m n : ℕ) → nat_le m n ≡ true → m ≤ n
 le_if m n h = grind arith
 
-lt_if_not : (m n : ℕ) → nat_lt m n ≡ false → n ≤ m
-lt_if_not m n h = grind arith
-
 not_lt : (m n : ℕ) → n ≤ m → nat_lt m n ≡ false
 not_lt m n h = grind arith
 
