@@ -6,6 +6,8 @@ use Rattle.slice_base.specs.Plane.{square_of}
 use Rattle.stitch_core.specs.declared.gaps.Gap.{Gap}
 use Rattle.stitch_core.specs.Gaps.{start_of, end_of, gaps_to, gaps_from, reach, lesser, least, least_gap}
 use Rattle.stitch_core.specs.Slots.{left, place, placed, IsGap, IsNotAfter, IsNext}
+use Rattle.std.specs.List.{All}
+use Rattle.stitch_core.proofs.Slots.{left-all}
 
 -- the better of a gap and one more
 abbrev pub better : Option Gap → Gap → Option Gap
@@ -188,3 +190,29 @@ least_gap-next slots g next =
 
 pub least_gap-none : (slots : List (List Pt)) → ((g : Gap) → IsGap slots g → ⊥) → least_gap (left slots) ≡ None
 least_gap-none slots none = all-none slots slots 0 (λ x y l m w. none (record { squared = between slots slots x y; from = x; to = y }) (record { ends = l; starts = m; wide = refl; within = w }))
+
+-- each chain stands in the slot of its place, where all have points
+place-all : (chains : List (List Pt)) (i : ℕ) → All (λ c. 0 < length c) chains → i < length chains → place chains i ≡ i
+place-all [] i h below = let no : ⊥ = omega arith in absurd no
+place-all (c ∷ chains) zero h below = refl
+place-all ([] ∷ chains) (suc i) h below = let some = h 0 [] (omega arith) in let no : ⊥ = omega arith in absurd no
+place-all ((p ∷ ps) ∷ chains) (suc i) h below = ap suc (place-all chains i (λ k d under. h (suc k) d (omega arith)) (omega arith))
+
+-- a chain that has points is one of the list
+in_list : (chains : List (List Pt)) (i : ℕ) → 0 < length (get_or chains i []) → i < length chains
+in_list [] i some = let no : ⊥ = omega arith in absurd no
+in_list (c ∷ chains) zero some = omega arith
+in_list (c ∷ chains) (suc i) some = let below = in_list chains i some in omega arith
+
+placed-all : (chains : List (List Pt)) (g : Gap) → All (λ c. 0 < length c) chains → IsGap chains g → placed chains g ≡ g
+placed-all chains g h gap =
+    let from = place-all chains g.from h (in_list chains g.from gap.ends) in
+    let to = place-all chains g.to h (in_list chains g.to gap.starts) in
+    ap (λ (x : ℕ). record { squared = g.squared; from = x; to = place chains g.to }) from ∙ ap (λ (y : ℕ). record { squared = g.squared; from = g.from; to = y }) to
+
+pub least_gap-is-least : (chains : List (List Pt)) (g : Gap) → All (λ c. 0 < length c) chains → IsNext chains g → least_gap chains ≡ Some g
+least_gap-is-least chains g h next =
+    ap least_gap (sym (left-all chains h)) ∙ (least_gap-next chains g next ∙ ap Some (placed-all chains g h next.is_gap))
+
+pub least_gap-is-none : (chains : List (List Pt)) → All (λ c. 0 < length c) chains → ((g : Gap) → IsGap chains g → ⊥) → least_gap chains ≡ None
+least_gap-is-none chains h none = ap least_gap (sym (left-all chains h)) ∙ least_gap-none chains none
