@@ -4,9 +4,11 @@
 
 mod gaps;
 mod joins;
+mod laws;
 mod queue;
 mod stitches;
 
+pub use laws::closes_the_least_gap;
 pub use stitches::{Stitched, stitch};
 
 #[cfg(test)]
