@@ -13,7 +13,7 @@ ghost use Rattle.outline_file.specs.declared.answers.OutlineFault.{OutlineFault}
 ghost use Rattle.outline_file.specs.Layers.{top_of_all, stitched_at, loops_at, dropped_at, outlines_of, OutlinesGive};
 
 use crate::answers::{MOST_LAYERS, OutlineFault, Outlines};
-use cross_section::{Mesh, layer_count, plane, section};
+use cross_section::{Mesh, layer_count, one_layer_count, plane, section};
 use settings_core::Settings;
 use slice_base::{Items, NoMemory, Region};
 use std::alloc::Global;
@@ -120,7 +120,9 @@ fn all_layers(
 /// call does nothing.
 pub fn one_outcome()
     ensures { (s : Settings) (meshes : List (List Tri)) (a b : Result Outlines OutlineFault) → OutlinesGive s meshes a → OutlinesGive s meshes b → a ≡ b }
-{}
+{
+    one_layer_count();
+}
 
 /// The outlines of meshes in place, in each layer those of one mesh after those of the other. That there
 /// are no layers, or over 10,000, is found before memory is wanted.
@@ -142,6 +144,7 @@ pub fn outlines(
     ensures too_many { (n : ℕ) → (result ≡ Err (OutlineFault.TooManyLayers n)) ↔ (IsLayerCount settings.now (top_of_all meshes.now) n × (10000 < n)) }
     ensures few_layers { IfOk result (λ o. length o.layers ≤ 10000) }
 {
+    one_layer_count();
     let count = layer_count(settings, greatest_top(meshes));
     if count == 0 {
         return Err(OutlineFault::NoLayers);
