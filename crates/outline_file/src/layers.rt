@@ -49,9 +49,10 @@ fn greatest_top(meshes: &[Mesh]) -> i32
 
 // The section of a mesh at a height, stitched.
 fn stitch_section(alloc: Global, mesh: &Mesh, z: i32) -> Result<Stitched, NoMemory>
-    requires { length mesh.now < 2 ^ 32 }
     ensures { IfOk result (λ s. s ≡ stitched_at z mesh.now) }
 {
+    // A mesh has no more triangles than `stitch` takes edges.
+    mesh.count();
     let edges = section(alloc, mesh, z)?;
     stitch(alloc, edges.as_slice())
 }
@@ -73,7 +74,6 @@ fn append(alloc: Global, loops: &mut Region, more: Region) -> Result<(), NoMemor
 // The layer at a height.
 fn layer_at(alloc: Global, meshes: &[Mesh], z: i32) -> Result<Layer, NoMemory>
     requires few { length meshes.now ≤ 16 }
-    requires each { All (λ m. length m < 2 ^ 32) meshes.now }
     ensures loops { IfOk result (λ l. l.loops ≡ loops_at z meshes.now) }
     ensures dropped { IfOk result (λ l. l.dropped ≡ dropped_at z meshes.now) }
     ensures small { IfOk result (λ l. l.dropped ≤ 16 * 2 ^ 32) }
@@ -99,7 +99,6 @@ fn all_layers(
     requires planes { (k : ℕ) → k < count → plane_of settings.now k < 2 ^ 31 }
     requires few_layers { count ≤ 10000 }
     requires few { length meshes.now ≤ 16 }
-    requires each { All (λ m. length m < 2 ^ 32) meshes.now }
     ensures outlines { IfOk result (λ o. o ≡ outlines_of settings.now meshes.now count) }
     ensures counted { IfOk result (λ o. length o.layers ≡ count) }
 {
@@ -134,8 +133,7 @@ pub fn outlines(
     requires in_range { IsPrintInRange settings.now }
     requires some { 0 < length meshes.now }
     requires few { length meshes.now ≤ 16 }
-    requires each_some { All (λ m. 0 < length m) meshes.now }
-    requires each_few { All (λ m. length m < 2 ^ 32) meshes.now }
+    requires each { All (λ m. 0 < length m) meshes.now }
     ensures says { (result ≡ Err OutlineFault.NoMemory) ⊎ OutlinesGive settings.now meshes.now result }
 
     // They give one answer at most, so it is the result unless memory ran out.
