@@ -4,7 +4,7 @@ ghost use Rattle.std.specs.Prelude.{◌≡◌};
 ghost use Rattle.answers.specs.Statuses.{status_of};
 
 use settings_core::Scope;
-use slice_base::Text;
+use slice_base::{NoMemory, Text};
 
 /// Why a job wasn't done. Meshes and triangles count from 0, words and lines from 1. The first that
 /// holds, in this order, is the answer. `ReadFault` and `TooLong` share a place, file by file;
@@ -49,6 +49,16 @@ pub enum Refusal {
     WriteFault,
     /// The job was done, and then the console failed.
     ConsoleFault,
+}
+
+impl From<NoMemory> for Refusal {
+    ghost use Rattle.answers.specs.declared.refusal.Refusal.TheVariants.{NoMemory as out_of_memory};
+
+    ghost from_gives = { λ _ e. e ≡ out_of_memory };
+
+    fn from(_: NoMemory) -> Self {
+        Refusal::NoMemory
+    }
 }
 
 /// The status of a run: 0 done, 1 words, 2 settings, 3 content of a file or mesh, 4 reading, 5 writing,

@@ -11,7 +11,7 @@ mod planes;
 mod shelves;
 
 pub use cutting::section;
-pub use laws::extent_is_tight;
+pub use laws::{extent_is_tight, one_layer_count};
 pub use mesh::{Mesh, mesh_of};
 pub use placing::{OutsideVolume, put_in_place};
 pub use planes::{layer_count, plane};

@@ -1,6 +1,5 @@
 -- Layers, one after another, and their number.
-use Rattle.std.proofs.Common.{ℕ, ◌+◌, ◌≡◌, ◌<◌, ◌≤◌, ◌↔◌, ◌⊎◌, inl, inr, List, [], ◌∷◌, ◌++◌, ap, sym, ◌∙◌, subst, arith, add-one, refl, Result, Ok, Err}
-use Rattle.std.proofs.lemmas.Int.{ints}
+use Rattle.std.proofs.Common.{ℕ, ◌+◌, ◌≡◌, ◌<◌, ◌≤◌, ◌↔◌, List, [], ◌∷◌, ◌++◌, ap, sym, ◌∙◌, subst, arith, add-one, refl, Result, Ok, Err}
 use Rattle.std.specs.Prelude.{ℤ, pos}
 use Rattle.slice_base.specs.declared.points.Pt.{Pt}
 use Rattle.slice_base.specs.declared.points.Tri.{Tri}
@@ -18,16 +17,6 @@ first_layers-step s ms k z ls new x pushed held is at =
 pub first_dropped-step : (s : Settings) (ms : List (List Tri)) (k : ℕ) (z : ℤ) (d x : ℕ) → d ≡ first_dropped s ms k → x ≡ dropped_at z ms → z ≡ pos (plane_of s k) → d + x ≡ first_dropped s ms (k + 1)
 first_dropped-step s ms k z d x held is at =
     ap (λ n. n + x) held ∙ ap (λ n. first_dropped s ms k + n) (is ∙ ap (λ h. dropped_at h ms) at) ∙ sym (ap (first_dropped s ms) (add-one k))
-
--- no plane is below a top and reaches it
-no_less : (s : Settings) (top : ℤ) (m n : ℕ) → IsLayerCount s top m → IsLayerCount s top n → n ≤ m
-no_less s top m n cm cn = elim (below_or m n) [ inl lt ↦ (let b = cn.below m lt in let r = cm.reached in absurd (omega (arith, ints, b, r))) | inr ge ↦ ge ]
-  where
-    below_or : (m n : ℕ) → (m < n) ⊎ (n ≤ m)
-    below_or m n = grind arith
-
-pub one_count : (s : Settings) (top : ℤ) (m n : ℕ) → IsLayerCount s top m → IsLayerCount s top n → m ≡ n
-one_count s top m n cm cn = let a = no_less s top m n cm cn in let b = no_less s top n m cn cm in omega (arith, a, b)
 
 -- there is one number of layers
 abbrev pub HasOneCount : Settings → List (List Tri) → Type 0

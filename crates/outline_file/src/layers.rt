@@ -13,7 +13,7 @@ ghost use Rattle.outline_file.specs.declared.answers.OutlineFault.{OutlineFault}
 ghost use Rattle.outline_file.specs.Layers.{top_of_all, stitched_at, loops_at, dropped_at, outlines_of, OutlinesGive};
 
 use crate::answers::{MOST_LAYERS, OutlineFault, Outlines};
-use cross_section::{Mesh, layer_count, plane, section};
+use cross_section::{Mesh, layer_count, one_layer_count, plane, section};
 use settings_core::Settings;
 use slice_base::{Items, NoMemory, Region};
 use std::alloc::Global;
@@ -49,9 +49,10 @@ fn greatest_top(meshes: &[Mesh]) -> i32
 
 // The section of a mesh at a height, stitched.
 fn stitch_section(alloc: Global, mesh: &Mesh, z: i32) -> Result<Stitched, NoMemory>
-    requires { length mesh.now < 2 ^ 32 }
     ensures { IfOk result (λ s. s ≡ stitched_at z mesh.now) }
 {
+    // A mesh has no more triangles than `stitch` takes edges.
+    mesh.count();
     let edges = section(alloc, mesh, z)?;
     stitch(alloc, edges.as_slice())
 }
@@ -73,7 +74,6 @@ fn append(alloc: Global, loops: &mut Region, more: Region) -> Result<(), NoMemor
 // The layer at a height.
 fn layer_at(alloc: Global, meshes: &[Mesh], z: i32) -> Result<Layer, NoMemory>
     requires few { length meshes.now ≤ 16 }
-    requires each { All (λ m. length m < 2 ^ 32) meshes.now }
     ensures loops { IfOk result (λ l. l.loops ≡ loops_at z meshes.now) }
     ensures dropped { IfOk result (λ l. l.dropped ≡ dropped_at z meshes.now) }
     ensures small { IfOk result (λ l. l.dropped ≤ 16 * 2 ^ 32) }
@@ -99,7 +99,6 @@ fn all_layers(
     requires planes { (k : ℕ) → k < count → plane_of settings.now k < 2 ^ 31 }
     requires few_layers { count ≤ 10000 }
     requires few { length meshes.now ≤ 16 }
-    requires each { All (λ m. length m < 2 ^ 32) meshes.now }
     ensures outlines { IfOk result (λ o. o ≡ outlines_of settings.now meshes.now count) }
     ensures counted { IfOk result (λ o. length o.layers ≡ count) }
 {
@@ -120,7 +119,9 @@ fn all_layers(
 /// call does nothing.
 pub fn one_outcome()
     ensures { (s : Settings) (meshes : List (List Tri)) (a b : Result Outlines OutlineFault) → OutlinesGive s meshes a → OutlinesGive s meshes b → a ≡ b }
-{}
+{
+    one_layer_count();
+}
 
 /// The outlines of meshes in place, in each layer those of one mesh after those of the other. That there
 /// are no layers, or over 10,000, is found before memory is wanted.
@@ -132,8 +133,7 @@ pub fn outlines(
     requires in_range { IsPrintInRange settings.now }
     requires some { 0 < length meshes.now }
     requires few { length meshes.now ≤ 16 }
-    requires each_some { All (λ m. 0 < length m) meshes.now }
-    requires each_few { All (λ m. length m < 2 ^ 32) meshes.now }
+    requires each { All (λ m. 0 < length m) meshes.now }
     ensures says { (result ≡ Err OutlineFault.NoMemory) ⊎ OutlinesGive settings.now meshes.now result }
 
     // They give one answer at most, so it is the result unless memory ran out.
@@ -142,6 +142,7 @@ pub fn outlines(
     ensures too_many { (n : ℕ) → (result ≡ Err (OutlineFault.TooManyLayers n)) ↔ (IsLayerCount settings.now (top_of_all meshes.now) n × (10000 < n)) }
     ensures few_layers { IfOk result (λ o. length o.layers ≤ 10000) }
 {
+    one_layer_count();
     let count = layer_count(settings, greatest_top(meshes));
     if count == 0 {
         return Err(OutlineFault::NoLayers);

@@ -1,6 +1,6 @@
 // Meshes over the printer of the defaults, whose layers are 0.3 mm and then lower.
 
-ghost use Rattle.std.specs.Prelude.{◌≡◌, ◌<◌, ◌≤◌, ◌^◌, length, IfOk};
+ghost use Rattle.std.specs.Prelude.{◌≡◌, ◌<◌, ◌≤◌, length, IfOk};
 ghost use Rattle.std.specs.List.{All};
 
 use super::*;
@@ -29,8 +29,7 @@ fn tetrahedron(a: Pt3, b: Pt3, c: Pt3, top: Pt3) -> [Tri; 4] {
 fn sliced(alloc: Global, meshes: &[Mesh]) -> Result<(Outlines, MemSink), Fail>
     requires some { 0 < length meshes.now }
     requires few { length meshes.now ≤ 16 }
-    requires each_some { All (λ m. 0 < length m) meshes.now }
-    requires each_few { All (λ m. length m < 2 ^ 32) meshes.now }
+    requires each { All (λ m. 0 < length m) meshes.now }
 {
     let settings = resolve(alloc, &[], &[0])?;
     let outlines = outlines(alloc, &settings, meshes)?;

@@ -1,4 +1,3 @@
-pub mod Faults
 pub mod Readings
 pub mod Placings
 pub mod Rows

@@ -1,6 +1,6 @@
 // Whole files, read by name.
 
-ghost use Rattle.std.specs.Prelude.{◌≡◌, IfOk, IfErr, MatchResult};
+ghost use Rattle.std.specs.Prelude.{◌≡◌, IfOk, IfErr};
 ghost use Rattle.std.specs.Str.{IsUtf8};
 ghost use Rattle.plate_input.specs.Answers.{faults_after_reads};
 ghost use Rattle.plate_input.specs.Gathering.{IsRead, FileRefusal};
@@ -12,16 +12,6 @@ use std::alloc::Global;
 
 /// The longest file, in bytes.
 pub const MOST_BYTES: usize = 268_435_456;
-
-/// A copy of a text.
-pub(crate) fn copied_text(alloc: Global, text: &Text) -> Result<Text, Refusal>
-    ensures { MatchResult result (λ copy. copy ≡ text.now) (λ r. r ≡ Refusal.NoMemory) }
-{
-    match text.copy(alloc) {
-        Ok(copy) => Ok(copy),
-        Err(_) => Err(Refusal::NoMemory),
-    }
-}
 
 /// The whole file of that name.
 pub(crate) fn read_named<Sh: Shelf>(
@@ -39,7 +29,7 @@ pub(crate) fn read_named<Sh: Shelf>(
         unreachable!()
     };
     // Taken before the read, so that no answer to it waits for memory.
-    let named = copied_text(alloc, name)?;
+    let named = name.copy(alloc)?;
     match shelf.read(alloc, word, MOST_BYTES) {
         Ok(bytes) => Ok(Text::from_vec(bytes)),
         Err(ReadNo::Failed) => Err(Refusal::ReadFault { name: named }),

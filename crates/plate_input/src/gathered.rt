@@ -106,23 +106,14 @@ fn take<Sh: Shelf>(
     ensures faults { (Sh.store shelf.new).faults ≡ faults_after_reads result (Sh.store shelf.old).faults }
 {
     match item {
-        Item::Pair(pair) => match gathered.take_pair(alloc, pair) {
-            Ok(()) => Ok(()),
-            Err(NoMemory) => Err(Refusal::NoMemory),
-        },
+        Item::Pair(pair) => Ok(gathered.take_pair(alloc, pair)?),
         Item::Settings(name) => {
             let bytes = read_named(alloc, name, shelf)?;
-            match gathered.take_settings(alloc, name, bytes.bytes()) {
-                Ok(()) => Ok(()),
-                Err(NoMemory) => Err(Refusal::NoMemory),
-            }
+            Ok(gathered.take_settings(alloc, name, bytes.bytes())?)
         }
         Item::Mesh { name, extruder } => {
             let bytes = read_named(alloc, name, shelf)?;
-            match gathered.take_mesh(*extruder, bytes) {
-                Ok(()) => Ok(()),
-                Err(NoMemory) => Err(Refusal::NoMemory),
-            }
+            Ok(gathered.take_mesh(*extruder, bytes)?)
         }
     }
 }

@@ -49,10 +49,7 @@ fn place_mesh(alloc: Global, bytes: &[u8], settings: &Settings, mesh: u8) -> Res
             mesh,
             triangle: outside.triangle,
         }),
-        Ok(()) => match mesh_of(alloc, tris.as_slice()) {
-            Ok(mesh) => Ok(mesh),
-            Err(_) => Err(Refusal::NoMemory),
-        },
+        Ok(()) => Ok(mesh_of(alloc, tris.as_slice())?),
     }
 }
 
@@ -73,10 +70,7 @@ pub(crate) fn place_meshes(
     let mut number: u8 = 0;
     for bytes in files.into_vec() {
         let mesh = place_mesh(alloc, bytes.bytes(), settings, number)?;
-        match meshes.push(mesh) {
-            Ok(()) => {}
-            Err(_) => return Err(Refusal::NoMemory),
-        }
+        meshes.push(mesh)?;
         number += 1;
     }
     Ok(meshes)

@@ -8,7 +8,7 @@ ghost use Rattle.plate_input.specs.Meshes.{LiesInside};
 ghost use Rattle.plate_input.specs.Plate.{SettingRefusal, SettledGives, KeptGives};
 ghost use Rattle.plate_input.specs.Answers.{Answers};
 
-use crate::files::{MOST_BYTES, copied_text};
+use crate::files::MOST_BYTES;
 use crate::gathered::Gathered;
 use crate::meshes::place_meshes;
 use crate::plates::Plate;
@@ -38,13 +38,13 @@ fn settle(alloc: Global, pairs: &[Pair], extruders: &[u8]) -> Result<Settings, R
         Ok(settings) => Ok(settings),
         Err(SettingFault::BadValue { pair }) => {
             let misread = pair_at(pairs, pair);
-            let key = copied_text(alloc, &misread.key)?;
+            let key = misread.key.copy(alloc)?;
             let scope = misread.scope;
             Err(Refusal::BadValue { scope, key })
         }
         Err(SettingFault::OutOfRange { pair }) => {
             let outlier = pair_at(pairs, pair);
-            let key = copied_text(alloc, &outlier.key)?;
+            let key = outlier.key.copy(alloc)?;
             let scope = outlier.scope;
             Err(Refusal::OutOfRange { scope, key })
         }

@@ -6,10 +6,9 @@ ghost use Rattle.std.specs.Str.{IsUtf8};
 ghost use Rattle.cli_words.specs.Command.{IsTask, item_names};
 
 use crate::{Plate, read_plate};
-use answers::Refusal;
+use answers::{Refusal, put_refusal};
 use cli_words::{Command, Task, read_words};
-use outside::MemShelf;
-use settings_core::Scope;
+use outside::{MemShelf, MemSink};
 use slice_base::Text;
 use std::alloc::{AllocError, Global};
 use std::test::Fail;
@@ -52,46 +51,11 @@ fn task(alloc: Global, line: &str) -> Result<Option<Task>, Fail>
     }
 }
 
-fn shown(text: &Text) -> &str {
-    text.as_str().unwrap_or("?")
-}
-
-fn scope_text(alloc: Global, scope: Scope) -> Result<String, AllocError> {
-    match scope {
-        Scope::Global => format!(in alloc; "global"),
-        Scope::Extruder(n) => format!(in alloc; "extruder {n}"),
-        Scope::Mesh(n) => format!(in alloc; "mesh {n}"),
-    }
-}
-
-fn refusal_text(alloc: Global, refusal: &Refusal) -> Result<String, AllocError> {
-    match refusal {
-        Refusal::ReadFault { name } => {
-            let name = shown(name);
-            format!(in alloc; "cannot read {name}")
-        }
-        Refusal::NotJson { name } => {
-            let name = shown(name);
-            format!(in alloc; "not a settings file: {name}")
-        }
-        Refusal::BadValue { scope, key } => {
-            let scope = scope_text(alloc, *scope)?;
-            let key = shown(key);
-            format!(in alloc; "bad value: {scope} {key}")
-        }
-        Refusal::OutOfRange { scope, key } => {
-            let scope = scope_text(alloc, *scope)?;
-            let key = shown(key);
-            format!(in alloc; "out of range: {scope} {key}")
-        }
-        Refusal::UnknownExtruder { mesh } => format!(in alloc; "unknown extruder: mesh {mesh}"),
-        Refusal::BadStl { mesh, line } => format!(in alloc; "bad STL: mesh {mesh} line {line}"),
-        Refusal::NoTriangles { mesh } => format!(in alloc; "no triangles: mesh {mesh}"),
-        Refusal::OutsideVolume { mesh, triangle } => {
-            format!(in alloc; "outside: mesh {mesh} triangle {triangle}")
-        }
-        _ => format!(in alloc; "another"),
-    }
+// The line of a refusal, as the console gets it.
+fn refusal_text(alloc: Global, refusal: &Refusal) -> Result<String, Fail> {
+    let mut console = MemSink::of(alloc, 99, 99, Vec::new(alloc))?;
+    put_refusal(&mut console, refusal)?;
+    Ok(String::from_str(alloc, str::from_utf8(console.bytes()).unwrap_or("?"))?)
 }
 
 // The layer height, and the x of each triangle's first corner.
@@ -143,23 +107,26 @@ fn the_first_fault_is_named(rt: HostRuntime) -> Result<(), Fail> {
     for (line, wanted) in [
         (
             "serial -o g -s layer_height=abc -l bad",
-            "bad value: global layer_height",
+            "error: bad value: global layer_height\n",
         ),
         (
             "serial -o g -l bad -s wall_line_width=9",
-            "out of range: mesh 0 wall_line_width",
+            "error: out of range: mesh 0 wall_line_width\n",
         ),
         (
             "serial -o g -s machine_width=0 -l a",
-            "out of range: global machine_width",
+            "error: out of range: global machine_width\n",
         ),
-        ("serial -o g -j list -l a", "not a settings file: list"),
-        ("serial -e1 -l a -o g", "unknown extruder: mesh 0"),
-        ("serial -o g -l empty", "no triangles: mesh 0"),
-        ("serial -o g -l a -l bad", "bad STL: mesh 1 line 3"),
+        (
+            "serial -o g -j list -l a",
+            "error: not a settings file: list\n",
+        ),
+        ("serial -e1 -l a -o g", "error: unknown extruder: mesh 0\n"),
+        ("serial -o g -l empty", "error: no triangles: mesh 0\n"),
+        ("serial -o g -l a -l bad", "error: bad STL: mesh 1 line 3\n"),
         (
             "serial -o g -l a -s mesh_position_x=-1 -l bad",
-            "outside: mesh 0 triangle 0",
+            "error: outside the volume: mesh 0 triangle 0\n",
         ),
     ] {
         let (text, _) = answer(rt.alloc(), line)?;
@@ -169,9 +136,9 @@ fn the_first_fault_is_named(rt: HostRuntime) -> Result<(), Fail> {
 }
 
 #[test]
-fn a_missing_file_is_named_before_any_is_parsed(rt: HostRuntime) -> Result<(), Fail> {
+fn a_missing_file_is_named_before_any_other_fault_of_files(rt: HostRuntime) -> Result<(), Fail> {
     let (text, reads) = answer(rt.alloc(), "serial -o g -j list -l bad -l u -l v")?;
-    assert_eq!(rt; text.as_str(), "cannot read u");
+    assert_eq!(rt; text.as_str(), "error: cannot read u\n");
     assert_eq!(rt; reads, 3);
     Ok(())
 }

@@ -9,7 +9,6 @@ use Rattle.cli_words.specs.declared.command.Command.{Command}
 use Rattle.cli_words.specs.declared.command.Command.TheVariants.{Slice, Serial, Check, Gen}
 use Rattle.cli_words.specs.declared.command.WordFault.{WordFault}
 use Rattle.cli_words.specs.declared.command.WordFault.TheVariants as fault
-use Rattle.outline_file.specs.declared.answers.OutlineFault.TheVariants as outline
 use Rattle.slice_engine.specs.declared.jobs.Job.{Job}
 use Rattle.slice_engine.specs.Job.{WordsGive, IsWordsAnswer, CommandGives, word_refusal}
 use Rattle.cli_words.specs.declared.command.Task.{Task}

@@ -79,9 +79,7 @@ fn plan_task<Sh: Shelf>(alloc: Global, task: Task, shelf: &mut Sh) -> Result<Job
         out,
         items: _,
     } = task;
-    let Some(output) = out else {
-        return Err(Refusal::NoOutput);
-    };
+    let Some(output) = out else { unreachable!() };
     let Plate { settings, meshes } = plate;
     match outlines(alloc, &settings, meshes.items()) {
         Ok(outlines) => Ok(Job {
@@ -102,10 +100,8 @@ fn plan_words<Sh: Shelf>(alloc: Global, words: &[String], shelf: &mut Sh) -> Res
     ensures valid { IfOk result (λ job. IsValid job.settings) }
     ensures few { IfOk result (λ job. length job.outlines.layers ≤ 10000) }
 {
-    match read_task(alloc, words) {
-        Ok(task) => plan_task(alloc, task, shelf),
-        Err(refusal) => Err(refusal),
-    }
+    let task = read_task(alloc, words)?;
+    plan_task(alloc, task, shelf)
 }
 
 /// Words and told files define one job, or one refusal, at most. The call does nothing.

@@ -21,13 +21,13 @@ returns-in-Err-clause-gives c =
     let out : first_outside c.args.settings.now (placed c.args.settings.now c.args.mesh c.in_ok-read_triangles.field-0) ≡ Some c.in-Err.outside.triangle = subst (λ (ts : List Tri). first_outside s (placed s m ts) ≡ Some n) same ((c.in-Err.ensures.outside n).0 refl) in
     mesh_outside s m n c.args.bytes.now c.in_ok-read_triangles.field-0 c.in_ok-read_triangles.ensures.gives out
 
-pub returns-in-Ok-mesh_of-clause-gives : goal.returns-in-Ok-mesh_of-clause-gives
-returns-in-Ok-mesh_of-clause-gives c =
+pub returns-clause-gives : goal.returns-clause-gives
+returns-clause-gives c =
     let s = c.args.settings.now in
     let m = c.args.mesh in
     let ts = c.in_ok-read_triangles.field-0 in
     let same : c.as_mut_slice.result.now ≡ c.in_ok-read_triangles.field-0 = c.as_mut_slice.ensures.value ∙ c.into_vec-tris.ensures in
     let none : first_outside c.args.settings.now (placed c.args.settings.now c.args.mesh c.in_ok-read_triangles.field-0) ≡ None = subst (λ (xs : List Tri). first_outside s (placed s m xs) ≡ None) same c.in-Ok.ensures.inside in
     let as_long : length c.put_in_place.new.tris ≡ c.into_vec-tris.result.len = omega (arith, c.put_in_place.auto.tris, c.as_mut_slice.ensures.len) in
-    let stands : c.in-Ok-mesh_of.mesh ≡ placed c.args.settings.now c.args.mesh c.in_ok-read_triangles.field-0 = c.in-Ok-mesh_of.ensures ∙ (c.as_slice.ensures.value ∙ (written c.into_vec-tris.result.len c.put_in_place.new.tris c.into_vec-tris.result.items as_long ∙ (c.in-Ok.ensures.moved ∙ ap (placed s m) same))) in
-    mesh_placed s m c.args.bytes.now ts c.in-Ok-mesh_of.mesh c.in_ok-read_triangles.ensures.gives none stands
+    let stands : c.in_ok-mesh_of-in-Ok.field-0 ≡ placed c.args.settings.now c.args.mesh c.in_ok-read_triangles.field-0 = c.in_ok-mesh_of-in-Ok.ensures ∙ (c.as_slice.ensures.value ∙ (written c.into_vec-tris.result.len c.put_in_place.new.tris c.into_vec-tris.result.items as_long ∙ (c.in-Ok.ensures.moved ∙ ap (placed s m) same))) in
+    mesh_placed s m c.args.bytes.now ts c.in_ok-mesh_of-in-Ok.field-0 c.in_ok-read_triangles.ensures.gives none stands

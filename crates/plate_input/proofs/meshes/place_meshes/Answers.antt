@@ -22,7 +22,7 @@ loop-bytes-preserved c =
     let items = into_iter_items l.bytes-iterator in
     let rest = into_iter_items c.next.new.self in
     let steps = c.in-Some.ensures.steps.0 in
-    let pushed = c.in-Ok.ensures.ok in
+    let pushed = c.in_ok-push.ensures.ok in
     let longer : length (into_iter_items c.loop-bytes.bytes-iterator) ≡ length (c.in-Some.bytes ∷ into_iter_items c.next.new.self) = ap length steps in
     let more_meshes : length c.push.new.self ≡ length (c.loop-bytes.meshes ++ c.in_ok-mesh.mesh ∷ []) = ap length pushed in
     record {
