@@ -21,11 +21,6 @@ begun ws = record { same = refl; files_is = refl; meshes_is = refl }
 unrolled : (n : ℕ) (done : List Chosen) (p : Piece) (ps : List Piece) (r : Result Chosen ℕ) → choice_of n (count_by is_settings done) (count_by is_mesh done) p ≡ r → read n done (p ∷ ps) ≡ with_choice r (λ c. read (n + words_in p) (done ++ c ∷ []) ps)
 unrolled n done p ps r e = ap (λ (x : Result Chosen ℕ). with_choice x (λ c. read (n + words_in p) (done ++ c ∷ []) ps)) e
 
-pub faulty : (ws rest rest' : List (List ℕ)) (at files meshes k : ℕ) (done : List Chosen) (p : Piece) → IsRead ws rest at files meshes done → cut None rest ≡ p ∷ cut None rest' → choice_of (at + 2) files meshes p ≡ Err k → choices_of ws ≡ Err k
-faulty ws rest rest' at files meshes k done p s e f =
-    let g : choice_of (at + 2) (count_by is_settings done) (count_by is_mesh done) p ≡ Err k = rw (← s.files_is, ← s.meshes_is) f in
-    sym s.same ∙ (ap (read (at + 2) done) e ∙ unrolled (at + 2) done p (cut None rest') (Err k) g)
-
 counted : (q : Chosen → Bool) (done : List Chosen) (c : Chosen) → count_by q (done ++ c ∷ []) ≡ cond (q c) (count_by q done + 1) (count_by q done)
 counted q done c = by (q c) refl
   where

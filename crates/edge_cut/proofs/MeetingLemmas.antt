@@ -1,14 +1,12 @@
 -- Answers over plain values.
-use Rattle.std.proofs.Common.{◌≡◌, ◌≤◌, ◌<◌, ◌-◌, ℕ, ℤ, pos, negsuc, ◌≤ℤ◌, ◌-ℤ◌, ◌+ℤ◌, ◌*ℤ◌, ◌&&◌, true, false, [], ◌∷◌, ◌++◌, Option, option_to_list, FitsSigned, to_z, of_z, w32, arith, append-nil}
+use Rattle.std.proofs.Common.{◌≡◌, ◌≤◌, ◌<◌, ◌-◌, ℕ, ℤ, pos, negsuc, ◌≤ℤ◌, ◌-ℤ◌, ◌+ℤ◌, ◌*ℤ◌, ◌&&◌, true, [], FitsSigned, to_z, of_z, w32, arith}
 use Rattle.std.specs.Int.{w128}
 use Rattle.std.specs.Int.RustNames.{unsigned_abs}
-use Rattle.std.specs.Ordering.{int_eq}
 use Rattle.std.proofs.lemmas.Int.{to_z-of_z, ints}
 use Rattle.slice_base.specs.declared.points.Pt.{Pt}
-use Rattle.slice_base.specs.declared.points.Edge.{Edge}
 use Rattle.slice_base.specs.Whole.{rounded}
-use Rattle.slice_base.specs.Plane.{cross_of, dot_of}
-use Rattle.edge_cut.specs.Meeting.{coordinate_at, is_part, point_at, part_on, part_across, turn_of, crossing_of, end_on, shared_of, meetings_of}
+use Rattle.slice_base.specs.Plane.{dot_of}
+use Rattle.edge_cut.specs.Meeting.{coordinate_at, is_part}
 use Rattle.edge_cut.proofs.Between.{coordinate_at-le, le-coordinate_at}
 
 least-fits : (z : ℤ) → FitsSigned w32 z → negsuc 2147483647 ≤ℤ z
@@ -29,23 +27,8 @@ coordinate_at-fits a b r part whole e fa fb le some =
 pub dot-is : (p q ux vy uy vx r : ℤ) (a b c d : Pt) → r ≡ p +ℤ q → p ≡ ux *ℤ vx → q ≡ uy *ℤ vy → ux ≡ b.x -ℤ a.x → vy ≡ d.y -ℤ c.y → uy ≡ b.y -ℤ a.y → vx ≡ d.x -ℤ c.x → r ≡ dot_of a b c d
 dot-is p q ux vy uy vx r a b c d er ep eq eux evy euy evx = rw (er, ep, eq, eux, evy, euy, evx)
 
-pub crossing-yes : (e f : Edge) (part across whole : ℤ) (p : Pt) → part ≡ part_on e f → across ≡ part_across e f → whole ≡ turn_of e f → (is_part part whole && is_part across whole) ≡ true → p ≡ point_at e (unsigned_abs part) (unsigned_abs whole) → p ∷ [] ≡ crossing_of e f
-crossing-yes e f part across whole p ep ea ew both is = let h = rw (ep, ea, ew) at both in rw (h, is, ep, ew)
-
-pub crossing-no : (e f : Edge) (part across whole : ℤ) → part ≡ part_on e f → across ≡ part_across e f → whole ≡ turn_of e f → (is_part part whole && is_part across whole) ≡ false → [] ≡ crossing_of e f
-crossing-no e f part across whole ep ea ew none = let h = rw (ep, ea, ew) at none in rw h
-
 pub part-le : (part across whole : ℤ) → (is_part part whole && is_part across whole) ≡ true → unsigned_abs part ≤ unsigned_abs whole
 part-le part across whole h = grind (arith, ints)
-
-pub shared-no : (e f : Edge) (turn : ℤ) → turn ≡ cross_of e.from e.to e.from f.from → int_eq turn (pos 0) ≡ false → [] ≡ shared_of e f
-shared-no e f turn et none = let h = rw et at none in rw h
-
-pub shared-yes : (e f : Edge) (turn : ℤ) (p q : Option Pt) → turn ≡ cross_of e.from e.to e.from f.from → int_eq turn (pos 0) ≡ true → option_to_list p ≡ end_on e f.from → option_to_list q ≡ end_on e f.to → option_to_list p ++ option_to_list q ≡ shared_of e f
-shared-yes e f turn p q et yes' ep eq = let h = rw et at yes' in rw (h, ep, eq)
-
-pub meetings-crossing : (e f : Edge) (turn : ℤ) (p : Option Pt) → turn ≡ turn_of e f → int_eq turn (pos 0) ≡ false → option_to_list p ≡ crossing_of e f → option_to_list p ++ [] ≡ meetings_of e f
-meetings-crossing e f turn p et none ep = let h = rw et at none in rw (h, append-nil, ep)
 
 pub coordinate_at-is : (a b s t r : ℤ) (part whole : ℕ) → r ≡ rounded (s +ℤ t) whole → s ≡ a *ℤ pos (whole - part) → t ≡ b *ℤ pos part → r ≡ coordinate_at a b part whole
 coordinate_at-is a b s t r part whole er es et = rw (er, es, et)

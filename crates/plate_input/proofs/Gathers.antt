@@ -87,9 +87,6 @@ read_begun items s = record { names = refl; are = tt; files = refl; reads = refl
 begun : (items : List Item) (s : Store) → Gathering items items s s (record { pairs = []; not_json = None; extruders = []; meshes = [] })
 begun items s = record { front = []; contents = []; read = read_begun items s; kept = kept_begun items }
 
-pub begun_at : (items : List Item) (s : Store) (ps : List Pair) (es : List ℕ) (ms : Names) → ps ≡ [] → es ≡ [] → ms ≡ [] → Gathering items items s s (record { pairs = ps; not_json = None; extruders = es; meshes = ms })
-begun_at items s ps es ms p e m = rw (p, e, m) (begun items s)
-
 -- one more item is kept
 kept_pair : (items rest : List Item) (contents : Names) (g : Gathered) (p : Pair) → KeptSoFar items (item.Pair p ∷ rest) contents g → KeptSoFar items rest contents (with_pairs (p ∷ []) g)
 kept_pair items rest contents g p k = record {

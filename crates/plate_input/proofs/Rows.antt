@@ -67,6 +67,3 @@ no_items (b ∷ bs) e = absurd (omega (arith, e))
 
 pub ended_at : (s : Settings) (files : List (List ℕ)) (done : List (List Tri)) (m : ℕ) (items : List (List ℕ)) → length items ≡ 0 → Reached s files done m items → Answers (MeshesGive s 0 files) (Ok done)
 ended_at s files done m items e r = ended s files done m (subst (Reached s files done m) (no_items items e) r)
-
-pub begun_at : (s : Settings) (files items : List (List ℕ)) (done : List (List Tri)) → items ≡ files → done ≡ [] → Reached s files done 0 items
-begun_at s files items done e f = rw (e, f) (begun s files)

@@ -9,10 +9,9 @@ use Rattle.cli_words.specs.declared.command.Command.{Command}
 use Rattle.cli_words.specs.declared.command.Command.TheVariants.{Slice, Serial, Check, Gen}
 use Rattle.cli_words.specs.declared.command.WordFault.{WordFault}
 use Rattle.cli_words.specs.declared.command.WordFault.TheVariants as fault
-use Rattle.outline_file.specs.declared.answers.OutlineFault.{OutlineFault}
 use Rattle.outline_file.specs.declared.answers.OutlineFault.TheVariants as outline
 use Rattle.slice_engine.specs.declared.jobs.Job.{Job}
-use Rattle.slice_engine.specs.Job.{WordsGive, IsWordsAnswer, CommandGives, word_refusal, outline_refusal}
+use Rattle.slice_engine.specs.Job.{WordsGive, IsWordsAnswer, CommandGives, word_refusal}
 use Rattle.cli_words.specs.declared.command.Task.{Task}
 use Rattle.slice_base.specs.Causes.{Rose, counted}
 use Rattle.outside.specs.Store.{Store}
@@ -87,53 +86,3 @@ failed_rose (Ok (Slice task)) name before after failed = absurd failed
 failed_rose (Ok (Check task)) name before after failed = absurd failed
 failed_rose (Ok (Gen n name')) name before after failed = absurd failed
 failed_rose (Err f) name before after failed = absurd failed
-
--- no plate is unfit by its words, the output or the console
-no_bad_word : (n : ℕ) (f : OutlineFault) → refusal.BadWord n ≡ outline_refusal f → ⊥
-no_bad_word n outline.NoLayers e = cc
-no_bad_word n (outline.TooManyLayers m) e = cc
-no_bad_word n outline.NoMemory e = cc
-
-no_lack_of_input : (f : OutlineFault) → refusal.NoInput ≡ outline_refusal f → ⊥
-no_lack_of_input outline.NoLayers e = cc
-no_lack_of_input (outline.TooManyLayers m) e = cc
-no_lack_of_input outline.NoMemory e = cc
-
-no_lack_of_output : (f : OutlineFault) → refusal.NoOutput ≡ outline_refusal f → ⊥
-no_lack_of_output outline.NoLayers e = cc
-no_lack_of_output (outline.TooManyLayers m) e = cc
-no_lack_of_output outline.NoMemory e = cc
-
--- where such a refusal is defined, it is that of the words
-pub bad_word_of : (command : Result Command WordFault) (files : Option (List (List ℕ × List ℕ))) (n : ℕ) → CommandGives command files (Err (refusal.BadWord n)) → command ≡ Err (fault.BadWord n)
-bad_word_of (Ok (Serial task)) files n (inl p) = absurd p.settled
-bad_word_of (Ok (Serial task)) files n (inr u) = absurd (no_bad_word n u.cause u.named)
-bad_word_of (Ok (Slice task)) files n e = cc
-bad_word_of (Ok (Check task)) files n e = cc
-bad_word_of (Ok (Gen m name)) files n e = cc
-bad_word_of (Err (fault.BadWord m)) files n e = cc
-bad_word_of (Err fault.NoInput) files n e = cc
-bad_word_of (Err fault.NoOutput) files n e = cc
-bad_word_of (Err fault.NoMemory) files n e = absurd e
-
-pub no_input_of : (command : Result Command WordFault) (files : Option (List (List ℕ × List ℕ))) → CommandGives command files (Err refusal.NoInput) → command ≡ Err fault.NoInput
-no_input_of (Ok (Serial task)) files (inl p) = absurd p.settled
-no_input_of (Ok (Serial task)) files (inr u) = absurd (no_lack_of_input u.cause u.named)
-no_input_of (Ok (Slice task)) files e = cc
-no_input_of (Ok (Check task)) files e = cc
-no_input_of (Ok (Gen m name)) files e = cc
-no_input_of (Err (fault.BadWord m)) files e = cc
-no_input_of (Err fault.NoInput) files e = refl
-no_input_of (Err fault.NoOutput) files e = cc
-no_input_of (Err fault.NoMemory) files e = absurd e
-
-pub no_output_of : (command : Result Command WordFault) (files : Option (List (List ℕ × List ℕ))) → CommandGives command files (Err refusal.NoOutput) → command ≡ Err fault.NoOutput
-no_output_of (Ok (Serial task)) files (inl p) = absurd p.settled
-no_output_of (Ok (Serial task)) files (inr u) = absurd (no_lack_of_output u.cause u.named)
-no_output_of (Ok (Slice task)) files e = cc
-no_output_of (Ok (Check task)) files e = cc
-no_output_of (Ok (Gen m name)) files e = cc
-no_output_of (Err (fault.BadWord m)) files e = cc
-no_output_of (Err fault.NoInput) files e = cc
-no_output_of (Err fault.NoOutput) files e = refl
-no_output_of (Err fault.NoMemory) files e = absurd e
