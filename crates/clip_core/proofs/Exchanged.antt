@@ -2,12 +2,12 @@
 use Rattle.std.proofs.Common.{◌≡◌, ℕ, Bool, true, false, not, cond, ◌&&◌, ◌||◌, List, [], ◌∷◌, ◌++◌, ℤ, ◌+ℤ◌, ◌-ℤ◌, Result, Ok, Err, ◌∙◌, sym, ap, refl, subst}
 use Rattle.std.specs.Prelude.{IfOk}
 use Rattle.std.proofs.Math.IntN.{+ℤ_comm}
+use Rattle.std.proofs.lemmas.List.{map-append}
 use Rattle.slice_base.specs.declared.points.Pt.{Pt}
 use Rattle.slice_base.specs.declared.points.Edge.{Edge}
 use Rattle.edge_cut.specs.declared.passes.Marked.{Marked}
 use Rattle.edge_cut.specs.Cut.{cut_of}
-use Rattle.edge_cut.specs.Operands.{of_operand, of_both, IsOfBoth, swapped}
-use Rattle.edge_cut.proofs.OperandLemmas.{of_operand-append, cut_of-of_both}
+use Rattle.edge_cut.specs.Operands.{as_of, of_operand, of_both, IsOfBoth, swapped}
 use Rattle.chain_core.specs.Link.{link_within, link_of}
 use Rattle.clip_core.specs.declared.bundles.Bundle.{Bundle}
 use Rattle.clip_core.specs.declared.windings.Windings.{Windings}
@@ -140,20 +140,20 @@ region_edges-operand s [] = refl
 region_edges-operand s (l ∷ ls) =
     ap (λ (x : List Marked). x ++ region_edges s ls) (loop_edges-operand s l)
     ∙ (ap (λ (x : List Marked). of_operand s (loop_edges false l) ++ x) (region_edges-operand s ls)
-    ∙ sym (of_operand-append s (loop_edges false l) (region_edges false ls)))
+    ∙ sym (map-append (as_of s) (loop_edges false l) (region_edges false ls)))
 
 operand_edges-same : (a : List (List Pt)) → operand_edges a a ≡ of_both (region_edges false a)
 operand_edges-same a =
     ap (λ (x : List Marked). x ++ region_edges true a) (region_edges-operand false a)
     ∙ ap (λ (x : List Marked). of_operand false (region_edges false a) ++ x) (region_edges-operand true a)
 
-after_cut-none : (answer : Result (List Marked) ℕ) → ((ms : List Marked) → answer ≡ Ok ms → IsOfBoth ms) → IfOk (after_cut Subtract answer) (λ rest. rest ≡ [])
-after_cut-none (Ok ms) f = result_of-none ms (f ms refl)
-after_cut-none (Err n) f = tt
+after_cut-none : (answer : Result (List Marked) ℕ) → IfOk answer IsOfBoth → IfOk (after_cut Subtract answer) (λ rest. rest ≡ [])
+after_cut-none (Ok ms) both = result_of-none ms both
+after_cut-none (Err n) both = tt
 
--- nothing is left of a region without itself
-pub clipped_of-itself : (a : List (List Pt)) → IfOk (clipped_of Subtract a a) (λ rest. rest ≡ [])
-clipped_of-itself a = after_cut-none (cut_of (operand_edges a a)) (λ ms e. cut_of-of_both (region_edges false a) ms (subst (λ (x : List Marked). cut_of x ≡ Ok ms) (operand_edges-same a) e))
+-- nothing is left of a region without itself, where pieces of edges that both operands have are alike
+pub clipped_of-itself : ((ms : List Marked) → IfOk (cut_of (of_both ms)) IsOfBoth) → (a : List (List Pt)) → IfOk (clipped_of Subtract a a) (λ rest. rest ≡ [])
+clipped_of-itself alike a = after_cut-none (cut_of (operand_edges a a)) (subst (λ (x : List Marked). IfOk (cut_of x) IsOfBoth) (sym (operand_edges-same a)) (alike (region_edges false a)))
 
 -- the operands exchanged
 

@@ -1,5 +1,6 @@
 -- Cutting doesn't see which operand an edge belongs to.
 use Rattle.std.proofs.Common.{◌≡◌, ℕ, zero, suc, Bool, true, false, not, cond, nat_lt, List, [], ◌∷◌, ◌++◌, length, Result, Ok, Err, refl, ap, sym, ◌∙◌, subst, append_assoc}
+use Rattle.std.proofs.lemmas.List.{map-append, length-map}
 use Rattle.slice_base.specs.declared.points.Pt.{Pt}
 use Rattle.slice_base.specs.declared.points.Edge.{Edge}
 use Rattle.edge_cut.specs.declared.stops.Stop.{Stop}
@@ -7,17 +8,13 @@ use Rattle.edge_cut.specs.declared.passes.Marked.{Marked}
 use Rattle.edge_cut.specs.Meeting.{meetings_of}
 use Rattle.edge_cut.specs.Stops.{stop_at, with_stop, with_points, with_meetings, stops_of}
 use Rattle.edge_cut.specs.Cut.{pieces_from, pieces_of, cut_by, pass_of, has_length, with_length_of, unless_long, passes, cut_of}
-use Rattle.edge_cut.specs.Operands.{of_operand, of_both, IsOfBoth, swapped, swapped_answer}
+use Rattle.edge_cut.specs.Operands.{as_of, of_operand, of_both, IsOfBoth, swapped, swapped_answer}
 
 pub cut_by-append : (all ms ns : List Marked) → cut_by all (ms ++ ns) ≡ cut_by all ms ++ cut_by all ns
 cut_by-append all [] ns = refl
 cut_by-append all (m ∷ ms) ns =
     let here = pieces_of m.second (stops_of m.edge all) in
     ap (λ (x : List Marked). here ++ x) (cut_by-append all ms ns) ∙ sym (append_assoc here (cut_by all ms) (cut_by all ns))
-
-pub of_operand-append : (second : Bool) (ms ns : List Marked) → of_operand second (ms ++ ns) ≡ of_operand second ms ++ of_operand second ns
-of_operand-append second [] ns = refl
-of_operand-append second (m ∷ ms) ns = ap (λ (x : List Marked). record { edge = m.edge; second = second } ∷ x) (of_operand-append second ms ns)
 
 of_operand-pieces_from : (second was : Bool) (p : Pt) (ss : List Stop) → of_operand second (pieces_from was p ss) ≡ pieces_from second p ss
 of_operand-pieces_from second was p [] = refl
@@ -33,7 +30,7 @@ of_operand-cut_by second all (m ∷ ms) =
     let here = stops_of m.edge all in
     ap (λ (x : List Marked). pieces_of second here ++ x) (of_operand-cut_by second all ms)
     ∙ (ap (λ (x : List Marked). x ++ of_operand second (cut_by all ms)) (sym (of_operand-pieces_of second m.second here))
-    ∙ sym (of_operand-append second (pieces_of m.second here) (cut_by all ms)))
+    ∙ sym (map-append (as_of second) (pieces_of m.second here) (cut_by all ms)))
 
 of_both-pass : (ms : List Marked) → pass_of (of_both ms) ≡ of_both (cut_by (of_both ms) ms)
 of_both-pass ms =
@@ -95,10 +92,6 @@ with_meetings-swapped e ss (m ∷ ms) = with_meetings-swapped e (with_points e s
 stops_of-swapped : (e : Edge) (ms : List Marked) → stops_of e (swapped ms) ≡ stops_of e ms
 stops_of-swapped e ms = with_meetings-swapped e (with_stop (stop_at e e.to) (stop_at e e.from ∷ [])) ms
 
-swapped-append : (ms ns : List Marked) → swapped (ms ++ ns) ≡ swapped ms ++ swapped ns
-swapped-append [] ns = refl
-swapped-append (m ∷ ms) ns = ap (λ (x : List Marked). record { edge = m.edge; second = not m.second } ∷ x) (swapped-append ms ns)
-
 swapped-pieces_from : (second : Bool) (p : Pt) (ss : List Stop) → swapped (pieces_from second p ss) ≡ pieces_from (not second) p ss
 swapped-pieces_from second p [] = refl
 swapped-pieces_from second p (s ∷ ss) = ap (λ (x : List Marked). record { edge = record { from = p; to = s.at }; second = not second } ∷ x) (swapped-pieces_from second s.at ss)
@@ -113,11 +106,7 @@ cut_by-swapped all (m ∷ ms) =
     ap (λ (x : List Stop). pieces_of (not m.second) x ++ cut_by (swapped all) (swapped ms)) (stops_of-swapped m.edge all)
     ∙ (ap (λ (x : List Marked). pieces_of (not m.second) (stops_of m.edge all) ++ x) (cut_by-swapped all ms)
     ∙ (ap (λ (x : List Marked). x ++ swapped (cut_by all ms)) (sym (swapped-pieces_of m.second (stops_of m.edge all)))
-    ∙ sym (swapped-append (pieces_of m.second (stops_of m.edge all)) (cut_by all ms))))
-
-length-swapped : (ms : List Marked) → length (swapped ms) ≡ length ms
-length-swapped [] = refl
-length-swapped (m ∷ ms) = ap suc (length-swapped ms)
+    ∙ sym (map-append (λ (n : Marked). as_of (not n.second) n) (pieces_of m.second (stops_of m.edge all)) (cut_by all ms))))
 
 swapped_answer-if : (t : Bool) (n : ℕ) (more : Result (List Marked) ℕ) → swapped_answer (cond t (Err n) more) ≡ cond t (Err n) (swapped_answer more)
 swapped_answer-if true n more = refl
@@ -125,7 +114,7 @@ swapped_answer-if false n more = refl
 
 unless_long-swapped : (ms : List Marked) (more more' : Result (List Marked) ℕ) → more' ≡ swapped_answer more → unless_long (swapped ms) more' ≡ swapped_answer (unless_long ms more)
 unless_long-swapped ms more more' e =
-    ap (λ n. cond (nat_lt 100000 n) (Err n) more') (length-swapped ms)
+    ap (λ n. cond (nat_lt 100000 n) (Err n) more') (length-map ms (λ (m : Marked). as_of (not m.second) m))
     ∙ (ap (λ (x : Result (List Marked) ℕ). unless_long ms x) e ∙ sym (swapped_answer-if (nat_lt 100000 (length ms)) (length ms) more))
 
 passes-swapped : (n : ℕ) (ms : List Marked) → passes n (swapped ms) ≡ swapped_answer (passes n ms)
