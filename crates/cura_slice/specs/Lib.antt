@@ -1,3 +1,5 @@
 pub mod Help
 pub mod Listing
 pub mod Telling
+pub mod Words
+pub mod Running

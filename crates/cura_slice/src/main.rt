@@ -1,6 +1,5 @@
-// The program: its words go to the top call, over the files of the folder that it runs in, and it ends
-// with the status of the answer. The clauses are those of `still_top`. What the words ask of the program
-// itself is told before.
+// The program: its words go to `run`, over the files of the folder that it runs in, and it ends with the
+// status that `run` answers. What it tells and does is stated there.
 #![tactic(auto)]
 
 #[cfg(test)]
@@ -13,26 +12,22 @@ mod listing;
 mod meshes;
 #[cfg(test)]
 mod plates;
+mod running;
 #[cfg(test)]
 mod tests;
 mod words;
 
 use outside::{DirShelf, FileSink, OutSink};
-use slice_engine::still_top;
+use running::run;
 use std::io;
 use std::process::ExitCode;
+use words::{SystemLine, given};
 
 fn main(rt: HostRuntime) -> ExitCode {
-    let mut console = OutSink::of(io::writer(&rt));
-    let words = match words::given(&rt) {
-        Ok(words) => words,
-        Err(refusal) => return ExitCode::from(words::refuse(refusal, &mut console)),
-    };
-    if let Some(topic) = help::asked(words.as_slice()) {
-        return ExitCode::from(help::tell(rt.alloc(), topic, &mut console));
-    }
+    let words = given(rt.alloc(), &SystemLine::of(&rt));
     let mut shelf = DirShelf::of(&rt);
     let sink = FileSink::of(&rt);
-    let (run, _sink) = still_top(rt.alloc(), words.as_slice(), &mut shelf, sink, &mut console);
-    ExitCode::from(run.status)
+    let mut console = OutSink::of(io::writer(&rt));
+    let (status, _sink) = run(rt.alloc(), words, &mut shelf, sink, &mut console);
+    ExitCode::from(status)
 }

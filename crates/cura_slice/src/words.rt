@@ -1,15 +1,16 @@
 // The words of the command line.
 
-ghost use Rattle.std.specs.Prelude.{◌≡◌, ◌⊎◌};
+ghost use Rattle.std.specs.Prelude.{◌≡◌, ◌⊎◌, ◌≤◌, ℕ, List, Option, map, string_bytes, IfOk, IfErr};
 ghost use Rattle.outside.specs.Output.{Put, PutFront};
 ghost use Rattle.answers.specs.Said.{said_refusal};
 ghost use Rattle.answers.specs.Statuses.{status_in};
+ghost use Rattle.cura_slice.specs.Words.{IsWord, AreWords, WhyNoWords};
 
 use answers::{Refusal, Run, put_refusal};
 use outside::Sink;
-use std::alloc::AllocError;
-use std::env::{self, Env, FillError};
-use std::io;
+use slice_base::{NoMemory, Text};
+use std::alloc::Global;
+use std::env::{Env, FillError};
 
 /// Tells the console why there is no job. The answer is the program's status, whatever becomes of the
 /// console.
@@ -21,37 +22,85 @@ pub fn refuse<Co: Sink>(refusal: Refusal, console: &mut Co) -> u8
     Run::of(Some(refusal)).status
 }
 
-// The system takes no longer word.
-const MOST_BYTES: usize = 131_072;
+/// A command line.
+pub trait CommandLine {
+    /// Its words, that of the program's name first, where it tells them.
+    ghost words: { Self → Option (List (List ℕ)) };
+
+    /// The word at that place, 0 that of the program's name; none behind the last.
+    fn word(&self, alloc: Global, place: u64) -> Result<Option<Text>, NoMemory>
+        ensures { IfOk result (IsWord (words self.now) place) };
+}
 
 /// The words behind the program's name; `BadWord` with the number of the first word, from 1, that isn't
 /// UTF-8, or `NoMemory`.
-pub fn given(rt: &(impl Env + AllocGlobal)) -> Result<Vec<String>, Refusal> {
-    let all = match env::args(rt) {
-        Ok(all) => all,
-        Err(error) if error.kind() == io::ErrorKind::OutOfMemory => return Err(Refusal::NoMemory),
-        Err(_) => return Err(not_text(rt).unwrap_or(Refusal::NoMemory)),
-    };
-    let mut words = Vec::new(rt.alloc());
-    for word in all.skip(1) {
-        words.push(word).map_err(|_| Refusal::NoMemory)?;
-    }
-    Ok(words)
-}
-
-// Names the first word that isn't UTF-8; 0 is the program's name.
-fn not_text(rt: &(impl Env + AllocGlobal)) -> Result<Refusal, AllocError> {
-    let mut room = vec![in rt.alloc(); 0u8; MOST_BYTES]?;
-    for index in 1..u64::MAX {
-        match rt.arg(index as usize, room.as_mut_slice()) {
-            Ok(length) => {
-                if str::from_utf8(&room[..length]).is_err() {
-                    return Ok(Refusal::BadWord { index });
+pub fn given<L: CommandLine>(alloc: Global, line: &L) -> Result<Vec<String>, Refusal>
+    ensures words { IfOk result (λ words. AreWords (L.words line.now) (map string_bytes words.items)) }
+    ensures refused { IfErr result (λ r. WhyNoWords r (L.words line.now)) }
+{
+    let mut words = Vec::new(alloc);
+    for place in 1..u64::MAX {
+        match line.word(alloc, place) {
+            Ok(Some(bytes)) => {
+                let Some(text) = bytes.as_str() else {
+                    return Err(Refusal::BadWord { index: place });
+                };
+                let word = match String::from_str(alloc, text) {
+                    Ok(word) => word,
+                    Err(_) => return Err(Refusal::NoMemory),
+                };
+                match words.push(word) {
+                    Ok(()) => {}
+                    Err(_) => return Err(Refusal::NoMemory),
                 }
             }
-            Err(FillError::TooLong) => {}
-            Err(FillError::NotPresent) => break,
+            Ok(None) => return Ok(words),
+            Err(NoMemory) => return Err(Refusal::NoMemory),
         }
     }
-    Ok(Refusal::BadWord { index: 0 })
+    Err(Refusal::NoMemory)
+}
+
+// Most words are shorter, in bytes.
+const MANY_BYTES: usize = 256;
+
+// The system takes no longer word.
+const MOST_BYTES: usize = 131_072;
+
+/// The command line of this run. It doesn't tell its words: which they are is the system's.
+#[derive(Drop)]
+pub struct SystemLine<E: Env> {
+    env: E,
+}
+
+impl<E: Env> SystemLine<E> {
+    /// The command line of this run.
+    pub fn of(env: E) -> Self {
+        SystemLine { env }
+    }
+
+    // A word that may be long.
+    fn long_word(&self, alloc: Global, place: u64) -> Result<Option<Text>, NoMemory> {
+        let mut room = vec![in alloc; 0u8; MOST_BYTES]?;
+        match self.env.arg(place as usize, room.as_mut_slice()) {
+            Ok(length) => Ok(Some(Text::of(alloc, &room[..length])?)),
+            Err(FillError::NotPresent) => Ok(None),
+            Err(FillError::TooLong) => Err(NoMemory),
+        }
+    }
+}
+
+impl<E: Env> CommandLine for SystemLine<E> {
+    ghost use Rattle.std.specs.Prelude.{None};
+
+    ghost words = { λ _. None };
+
+    fn word(&self, alloc: Global, place: u64) -> Result<Option<Text>, NoMemory> {
+        let mut room = [0u8; MANY_BYTES];
+        match self.env.arg(place as usize, &mut room) {
+            Ok(length) => Ok(Some(Text::of(alloc, &room[..length])?)),
+            Err(FillError::NotPresent) => Ok(None),
+            Err(FillError::TooLong) => self.long_word(alloc, place),
+        }
+    }
 }
