@@ -75,7 +75,9 @@ pub struct SystemLine<E: Env> {
 
 impl<E: Env> SystemLine<E> {
     /// The command line of this run.
-    pub fn of(env: E) -> Self {
+    pub fn of(env: E) -> Self
+        ensures { result ≡ record { env = env } }
+    {
         SystemLine { env }
     }
 
