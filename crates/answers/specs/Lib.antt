@@ -1,2 +1,3 @@
 pub mod Statuses
-pub mod Said
+pub mod Lines
+pub mod Inner

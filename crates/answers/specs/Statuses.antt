@@ -9,7 +9,6 @@ abbrev pub status_in : Refusal → ℕ
 status_in (refusal.BadWord n) = 1
 status_in refusal.NoInput = 1
 status_in refusal.NoOutput = 1
-status_in (refusal.NotBuilt n) = 1
 status_in (refusal.ReadFault name) = 4
 status_in (refusal.TooLong name) = 3
 status_in (refusal.NotJson name) = 2
@@ -22,6 +21,7 @@ status_in (refusal.TooManyTriangles mesh n) = 3
 status_in (refusal.OutsideVolume mesh triangle) = 3
 status_in refusal.NoLayers = 3
 status_in (refusal.TooManyLayers n) = 3
+status_in (refusal.TooTangled mesh layer n) = 3
 status_in refusal.NoMemory = 6
 status_in refusal.WriteFault = 5
 status_in refusal.ConsoleFault = 7

@@ -2,7 +2,7 @@
 
 ghost use Rattle.std.specs.Prelude.{◌≡◌, ◌++◌, codes, decimal, OnOk, OnErr};
 ghost use Rattle.outside.specs.Output.{Put, PutFront};
-ghost use Rattle.answers.specs.Said.{scope_text};
+ghost use Rattle.answers.specs.Lines.{scope_text};
 
 use outside::{Sink, put_all, puts_add_up};
 use settings_core::Scope;
@@ -19,7 +19,7 @@ pub(crate) fn put_two<S: Sink>(console: &mut S, first: &[u8], second: &[u8]) -> 
 }
 
 // A text, and a number behind it.
-pub(crate) fn put_number<S: Sink>(console: &mut S, text: &[u8], n: u64) -> Result<(), Failed>
+pub(crate) fn put_number<S: Sink>(console: &mut S, text: &[u8], n: u128) -> Result<(), Failed>
     ensures ok { OnOk result (Put (S.output console.old) (text.now ++ decimal n) (S.output console.new)) }
     ensures err { OnErr result (PutFront (S.output console.old) (text.now ++ decimal n) (S.output console.new)) }
 {
@@ -31,12 +31,14 @@ pub(crate) fn put_number<S: Sink>(console: &mut S, text: &[u8], n: u64) -> Resul
 pub(crate) fn put_numbers<S: Sink>(
     console: &mut S,
     first: &[u8],
-    m: u64,
+    m: u128,
     second: &[u8],
-    n: u64,
+    n: u128,
 ) -> Result<(), Failed>
-    ensures ok { OnOk result (Put (S.output console.old) (first.now ++ decimal m ++ second.now ++ decimal n) (S.output console.new)) }
-    ensures err { OnErr result (PutFront (S.output console.old) (first.now ++ decimal m ++ second.now ++ decimal n) (S.output console.new)) }
+    ensures ok { let text = first.now ++ decimal m ++ second.now ++ decimal n in
+        OnOk result (Put (S.output console.old) text (S.output console.new)) }
+    ensures err { let text = first.now ++ decimal m ++ second.now ++ decimal n in
+        OnErr result (PutFront (S.output console.old) text (S.output console.new)) }
 {
     puts_add_up();
     put_number(console, first, m)?;
@@ -50,8 +52,8 @@ fn put_scope<S: Sink>(console: &mut S, scope: Scope) -> Result<(), Failed>
 {
     match scope {
         Scope::Global => put_all(console, b"global"),
-        Scope::Extruder(n) => put_number(console, b"extruder ", u64::from(n)),
-        Scope::Mesh(i) => put_number(console, b"mesh ", u64::from(i)),
+        Scope::Extruder(n) => put_number(console, b"extruder ", n as u128),
+        Scope::Mesh(i) => put_number(console, b"mesh ", i as u128),
     }
 }
 
@@ -62,8 +64,10 @@ pub(crate) fn put_key<S: Sink>(
     scope: Scope,
     key: &[u8],
 ) -> Result<(), Failed>
-    ensures ok { OnOk result (Put (S.output console.old) (text.now ++ scope_text scope ++ codes " " ++ key.now) (S.output console.new)) }
-    ensures err { OnErr result (PutFront (S.output console.old) (text.now ++ scope_text scope ++ codes " " ++ key.now) (S.output console.new)) }
+    ensures ok { let whole = text.now ++ scope_text scope ++ codes " " ++ key.now in
+        OnOk result (Put (S.output console.old) whole (S.output console.new)) }
+    ensures err { let whole = text.now ++ scope_text scope ++ codes " " ++ key.now in
+        OnErr result (PutFront (S.output console.old) whole (S.output console.new)) }
 {
     puts_add_up();
     put_all(console, text)?;

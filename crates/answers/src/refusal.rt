@@ -6,7 +6,8 @@ ghost use Rattle.answers.specs.Statuses.{status_of};
 use settings_core::Scope;
 use slice_base::{NoMemory, Text};
 
-/// Why a job wasn't done. Meshes and triangles count from 0, words and lines from 1. The first that
+/// Why a job wasn't done. Meshes, triangles and layers count from 0,
+/// words and lines from 1. The first that
 /// holds, in this order, is the answer. `ReadFault` and `TooLong` share a place, file by file;
 /// `BadValue` and `OutOfRange` share one, pair by pair; those of a mesh are tested mesh by mesh.
 #[derive(Drop)]
@@ -17,8 +18,6 @@ pub enum Refusal {
     NoInput,
     /// There is no file to write.
     NoOutput,
-    /// That word asks for what isn't built yet.
-    NotBuilt { index: u64 },
     /// Reading that file failed.
     ReadFault { name: Text },
     /// That file has over 268,435,456 bytes.
@@ -41,8 +40,10 @@ pub enum Refusal {
     OutsideVolume { mesh: u8, triangle: u32 },
     /// No mesh reaches above the middle of the first layer.
     NoLayers,
-    /// There are that many layers, over 10,000.
+    /// There are that many layers, over 40,000.
     TooManyLayers { count: u32 },
+    /// In that layer of the mesh cutting gave that many edges, over 100,000.
+    TooTangled { mesh: u8, layer: u32, count: u64 },
     /// There was no memory.
     NoMemory,
     /// The output failed.
@@ -68,12 +69,7 @@ pub fn status(refusal: &Option<Refusal>) -> u8
 {
     match refusal {
         None => 0,
-        Some(
-            Refusal::BadWord { .. }
-            | Refusal::NoInput
-            | Refusal::NoOutput
-            | Refusal::NotBuilt { .. },
-        ) => 1,
+        Some(Refusal::BadWord { .. } | Refusal::NoInput | Refusal::NoOutput) => 1,
         Some(
             Refusal::NotJson { .. }
             | Refusal::BadValue { .. }
@@ -87,7 +83,8 @@ pub fn status(refusal: &Option<Refusal>) -> u8
             | Refusal::TooManyTriangles { .. }
             | Refusal::OutsideVolume { .. }
             | Refusal::NoLayers
-            | Refusal::TooManyLayers { .. },
+            | Refusal::TooManyLayers { .. }
+            | Refusal::TooTangled { .. },
         ) => 3,
         Some(Refusal::ReadFault { .. }) => 4,
         Some(Refusal::WriteFault) => 5,

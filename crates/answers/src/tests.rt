@@ -26,12 +26,6 @@ fn words_and_files_that_are_at_fault_are_named(rt: HostRuntime) -> Result<(), Fa
     )?;
     says(&rt, alloc, Refusal::NoInput, "error: no input\n")?;
     says(&rt, alloc, Refusal::NoOutput, "error: no output\n")?;
-    says(
-        &rt,
-        alloc,
-        Refusal::NotBuilt { index: 1 },
-        "error: not built: 1\n",
-    )?;
     let copy = name.copy(alloc)?;
     says(
         &rt,
@@ -120,16 +114,46 @@ fn meshes_that_are_at_fault_are_named(rt: HostRuntime) -> Result<(), Fail> {
     says(
         &rt,
         alloc,
-        Refusal::TooManyLayers { count: 10001 },
-        "error: too many layers: 10001\n",
+        Refusal::TooManyLayers { count: 40001 },
+        "error: too many layers: 40001\n",
+    )?;
+    let (layer, count) = (3, 5000000000);
+    says(
+        &rt,
+        alloc,
+        Refusal::TooTangled { mesh, layer, count },
+        "error: too tangled: mesh 1 layer 3 count 5000000000\n",
     )
 }
 
 #[test]
-fn a_job_that_was_done_has_its_count_of_layers(rt: HostRuntime) -> Result<(), Fail> {
+fn what_was_done_is_told_in_lines(rt: HostRuntime) -> Result<(), Fail> {
     let alloc = rt.alloc();
-    let mut console = MemSink::of(alloc, 9, 99, Vec::new(alloc))?;
+    let mut console = MemSink::of(alloc, 9, 999, Vec::new(alloc))?;
     put_done(&mut console, 50)?;
-    assert_eq!(rt; console.bytes(), b"sliced 50 layers\n".as_slice());
+    put_checked(&mut console, 2)?;
+    put_step(&mut console, Step::Claim, 0, 11)?;
+    put_step(&mut console, Step::Place, 1, 0)?;
+    put_step(&mut console, Step::Take, 63, 0)?;
+    put_step(&mut console, Step::Back, 63, 39999)?;
+    let job = Generated {
+        number: 4294967295,
+        triangles: 24,
+        layers: 10,
+        uses: 3,
+        preheats: 2,
+        bytes: 18446744073709551616,
+    };
+    put_generated(&mut console, job)?;
+    let lines = "\
+sliced 50 layers
+checked 2 layers
+claim 0 11
+place 1 0
+take 63 0
+back 63 39999
+gen 4294967295: triangles 24, layers 10, uses 3, preheats 2, bytes 18446744073709551616
+";
+    assert_eq!(rt; console.bytes(), lines.as_bytes());
     Ok(())
 }

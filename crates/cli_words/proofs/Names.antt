@@ -5,14 +5,14 @@ use Rattle.std.specs.List.{All, AllByRecursion, fold}
 use Rattle.std.specs.Str.{IsUtf8}
 use Rattle.std.proofs.lemmas.Str.{IsUtf8-string_bytes}
 use Rattle.cli_words.specs.Choices.{Piece, alone, taking, lacking, Chosen, settings, mesh, extruder, everything, pair, output, workers, journal, nothing, opened, cut, taker_of, words_in, is_settings, is_mesh, is_full, or_fault, number_of, extruder_if, workers_if, numbered, alone_of, pair_at, taken_of, choice_of, with_choice, read, choices_of}
-use Rattle.cli_words.specs.Command.{Place, start, moved, items_of, all_items, output_or, output_in, is_none, task_of, kind_of, needs_output, task_command, task_if, gen_file, gen_output, gen_numbered, gen_of, command_by, command_of, item_names, names_of}
+use Rattle.cli_words.specs.Command.{Context, start, moved, items_of, all_items, output_or, output_in, is_none, task_of, kind_of, needs_output, task_command, task_if, gen_file, gen_output, gen_numbered, gen_of, command_by, command_of, item_names, names_of}
 use Rattle.cli_words.specs.declared.choice.Taker.{Taker}
 use Rattle.cli_words.specs.declared.choice.Taker.TheVariants as taker
 use Rattle.cli_words.specs.declared.read.Kind.{Kind}
 use Rattle.cli_words.specs.declared.read.Kind.TheVariants as kind
 use Rattle.cli_words.specs.declared.command.Command.{Command}
 use Rattle.cli_words.specs.declared.command.WordFault.{WordFault}
-use Rattle.cli_words.specs.declared.command.WordFault.TheVariants.{BadWord, NoInput, NoOutput, NoMemory}
+use Rattle.cli_words.specs.declared.command.WordFault.TheVariants.{BadWord, NoInput, NoOutput}
 
 -- P holds of the words of each piece, and of the file names of each choice
 module _ (P : List ℕ → Type 0) where
@@ -142,7 +142,7 @@ module _ (P : List ℕ → Type 0) where
   in_list None h = tt
   in_list (Some w) h = (h, tt)
 
-  in_item : (p : Place) (c : Chosen) (cs : List Chosen) → InChoice c → AllByRecursion P (item_names (all_items (moved p c) cs)) → AllByRecursion P (item_names (items_of p c ++ all_items (moved p c) cs))
+  in_item : (p : Context) (c : Chosen) (cs : List Chosen) → InChoice c → AllByRecursion P (item_names (all_items (moved p c) cs)) → AllByRecursion P (item_names (items_of p c ++ all_items (moved p c) cs))
   in_item p (settings w) cs h k = (h, k)
   in_item p (mesh w) cs h k = (h, k)
   in_item p (extruder n) cs h k = k
@@ -153,7 +153,7 @@ module _ (P : List ℕ → Type 0) where
   in_item p journal cs h k = k
   in_item p nothing cs h k = k
 
-  in_items : (p : Place) (cs : List Chosen) → AllByRecursion InChoice cs → AllByRecursion P (item_names (all_items p cs))
+  in_items : (p : Context) (cs : List Chosen) → AllByRecursion InChoice cs → AllByRecursion P (item_names (all_items p cs))
   in_items p [] h = tt
   in_items p (c ∷ cs) h = in_item p c cs h.0 (in_items (moved p c) cs h.1)
 
@@ -223,51 +223,3 @@ all_utf8 (s ∷ ss) = (IsUtf8-string_bytes s, all_utf8 ss)
 pub names_utf8 : (ss : List (String Global)) (c : Command) → command_of (map string_bytes ss) ≡ Ok c → All IsUtf8 (names_of c)
 names_utf8 ss c e =
     all_from IsUtf8 (names_of c) (let Q : Result Command WordFault → Type 0 = InCommand IsUtf8 in subst Q e (in_command IsUtf8 (map string_bytes ss) (all_utf8 ss)))
-
--- want of memory is no answer of the definition
-abbrev IsDefined : Result Command WordFault → Type 0
-IsDefined (Err NoMemory) = ⊥
-IsDefined r = Unit {0}
-
-defined_cond : (b : Bool) (x y : Result Command WordFault) → IsDefined x → IsDefined y → IsDefined (cond b x y)
-defined_cond true x y p q = p
-defined_cond false x y p q = q
-
-defined_task : (k : Kind) (r : Result (List Chosen) ℕ) → IsDefined (task_if k r)
-defined_task k (Err n) = tt
-defined_task k (Ok cs) =
-    let r : Result Command WordFault = Ok (task_command k (task_of cs)) in
-    defined_cond (count_by is_mesh cs == 0) (Err NoInput) (cond (needs_output k && is_none (output_in cs)) (Err NoOutput) r) tt
-    (defined_cond (needs_output k && is_none (output_in cs)) (Err NoOutput) r tt tt)
-
-defined_gen_file : (n : ℕ) (ws : List (List ℕ)) → IsDefined (gen_file n ws)
-defined_gen_file n [] = tt
-defined_gen_file n (w ∷ []) = tt
-defined_gen_file n (w ∷ v ∷ ws) = tt
-
-defined_gen_output : (n : ℕ) (ws : List (List ℕ)) → IsDefined (gen_output n ws)
-defined_gen_output n [] = tt
-defined_gen_output n (w ∷ ws) = defined_cond (bytes_eq w (codes "-o")) (gen_file n ws) (Err (BadWord 3)) (defined_gen_file n ws) tt
-
-defined_gen_numbered : (o : Option ℕ) (ws : List (List ℕ)) → IsDefined (gen_numbered o ws)
-defined_gen_numbered None ws = tt
-defined_gen_numbered (Some n) ws = defined_gen_output n ws
-
-defined_gen : (ws : List (List ℕ)) → IsDefined (gen_of ws)
-defined_gen [] = tt
-defined_gen (w ∷ ws) = defined_gen_numbered (number_of 10 0 4294967295 w) ws
-
-defined_by : (o : Option Kind) (ws : List (List ℕ)) → IsDefined (command_by o ws)
-defined_by None ws = tt
-defined_by (Some kind.Slice) ws = defined_task kind.Slice (choices_of ws)
-defined_by (Some kind.Serial) ws = defined_task kind.Serial (choices_of ws)
-defined_by (Some kind.Check) ws = defined_task kind.Check (choices_of ws)
-defined_by (Some kind.Gen) ws = defined_gen ws
-
-defined : (ws : List (List ℕ)) → IsDefined (command_of ws)
-unfolding command_of
-defined [] = tt
-defined (w ∷ ws) = defined_by (kind_of w) ws
-
-pub never_memory : (ws : List (List ℕ)) → command_of ws ≡ Err NoMemory → ⊥
-never_memory ws e = subst IsDefined e (defined ws)

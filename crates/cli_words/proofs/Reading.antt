@@ -5,8 +5,8 @@ use Rattle.std.specs.List.{fold}
 use Rattle.std.proofs.lemmas.List.Sums.{fold_push}
 use Rattle.std.proofs.lemmas.Grind.{common_steps}
 use Rattle.cli_words.specs.Choices.{Piece, Chosen, settings, mesh, extruder, everything, pair, output, workers, journal, nothing, cut, words_in, is_settings, is_mesh, choice_of, with_choice, read, choices_of}
-use Rattle.cli_words.specs.Command.{Place, start, moved, place_after, items_of, all_items, workers_or, journal_or, output_or, output_in, is_none}
-use Rattle.cli_words.specs.Drafts.{place_of, Adds}
+use Rattle.cli_words.specs.Command.{Context, start, moved, items_of, all_items, workers_or, journal_or, output_or, output_in, is_none}
+use Rattle.cli_words.specs.Inner.Drafts.{context_after, context_of, Adds}
 use Rattle.cli_words.specs.declared.draft.Draft.{Draft}
 
 -- these choices were made of the words before the rest
@@ -67,13 +67,13 @@ pub record Drafted (ws rest : List (List ℕ)) (at : ℕ) (d : Draft) : Type 0 w
   pub journal : d.journal ≡ fold journal_or false done
   pub out : d.out ≡ output_in done
   pub items : d.items ≡ all_items start done
-  pub place : place_of d ≡ place_after done
+  pub context : context_of d ≡ context_after done
 
-all_items-push : (p : Place) (cs : List Chosen) (c : Chosen) → all_items p (cs ++ c ∷ []) ≡ all_items p cs ++ items_of (fold moved p cs) c
+all_items-push : (p : Context) (cs : List Chosen) (c : Chosen) → all_items p (cs ++ c ∷ []) ≡ all_items p cs ++ items_of (fold moved p cs) c
 all_items-push p [] c = grind (arith, common_steps)
 all_items-push p (x ∷ cs) c = ap (λ is. items_of p x ++ is) (all_items-push (moved p x) cs c) ∙ sym (append_assoc (items_of p x) (all_items (moved p x) cs) (items_of (fold moved (moved p x) cs) c))
 
-moved-meshes : (p : Place) (c : Chosen) → (moved p c).meshes ≡ cond (is_mesh c) (p.meshes + 1) p.meshes
+moved-meshes : (p : Context) (c : Chosen) → (moved p c).meshes ≡ cond (is_mesh c) (p.meshes + 1) p.meshes
 moved-meshes p (settings n) = refl
 moved-meshes p (mesh n) = refl
 moved-meshes p (extruder n) = refl
@@ -86,15 +86,15 @@ moved-meshes p nothing = refl
 
 pub drafted_more : (ws rest rest' : List (List ℕ)) (at : ℕ) (d d' : Draft) (p : Piece) (c : Chosen) → Drafted ws rest at d → cut None rest ≡ p ∷ cut None rest' → choice_of (at + 2) d.files d.meshes p ≡ Ok c → Adds d d' c → Drafted ws rest' (at + words_in p) d'
 drafted_more ws rest rest' at d d' p c s e f a =
-    let m : d'.meshes ≡ cond (is_mesh c) (d.meshes + 1) d.meshes = ap (λ (q : Place). q.meshes) a.place ∙ moved-meshes (place_of d) c in
+    let m : d'.meshes ≡ cond (is_mesh c) (d.meshes + 1) d.meshes = ap (λ (q : Context). q.meshes) a.context ∙ moved-meshes (context_of d) c in
     record {
       done = s.done ++ c ∷ [];
       is_read = goes_on ws rest rest' at d.files d.meshes d'.files d'.meshes s.done p c s.is_read e f a.files m;
       workers = a.workers ∙ (ap (λ (n : ℕ). workers_or n c) s.workers ∙ sym (fold_push workers_or 4 s.done c));
       journal = a.journal ∙ (ap (λ (b : Bool). journal_or b c) s.journal ∙ sym (fold_push journal_or false s.done c));
       out = a.out ∙ (ap (λ (o : Option (List ℕ)). output_or o c) s.out ∙ sym (output_in-push s.done c));
-      items = a.items ∙ (rw (s.items, s.place) (sym (all_items-push start s.done c)));
-      place = a.place ∙ (ap (λ (q : Place). moved q c) s.place ∙ sym (fold_push moved start s.done c));
+      items = a.items ∙ (rw (s.items, s.context) (sym (all_items-push start s.done c)));
+      context = a.context ∙ (ap (λ (q : Context). moved q c) s.context ∙ sym (fold_push moved start s.done c));
     }
 
 pub count_few : (b : Bool) (n m : ℕ) → m ≡ cond b (n + 1) n → m ≤ n + 1
@@ -102,7 +102,7 @@ count_few true n m e = omega arith
 count_few false n m e = omega arith
 
 pub adds_meshes : (d d' : Draft) (c : Chosen) → Adds d d' c → d'.meshes ≡ cond (is_mesh c) (d.meshes + 1) d.meshes
-adds_meshes d d' c a = ap (λ (q : Place). q.meshes) a.place ∙ moved-meshes (place_of d) c
+adds_meshes d d' c a = ap (λ (q : Context). q.meshes) a.context ∙ moved-meshes (context_of d) c
 
 pub if_ok : {T E A : Type 0} (r : Result T E) → OnOk r A → is_err r ≡ false → A
 if_ok (Ok x) a e = a

@@ -1,11 +1,11 @@
 -- A command that words give is sound.
 use Rattle.std.proofs.Common.{ℕ, zero, suc, ◌≡◌, ◌+◌, ◌<◌, ◌≤◌, Bool, true, false, cond, List, [], ◌∷◌, ◌++◌, length, Option, Some, None, Result, Ok, Err, arith, refl, subst}
 use Rattle.std.specs.Prelude.{count_by, position, bytes_eq, codes, ◌==◌, ◌&&◌, nat_le, IsSome}
-use Rattle.std.specs.List.{All, AllByRecursion}
+use Rattle.std.specs.List.{All, AllByRecursion, fold}
 use Rattle.std.proofs.lemmas.Bool.{leb-true, leb-false, eqb-false}
 use Rattle.std.proofs.lemmas.Grind.{common_steps}
-use Rattle.cli_words.specs.Choices.{Piece, alone, taking, lacking, Chosen, settings, mesh, extruder, everything, pair, output, workers, journal, nothing, cut, words_in, is_settings, is_mesh, or_fault, if_within, numeral, number_of, extruder_if, workers_if, numbered, alone_of, pair_at, choice_of, with_choice, read, choices_of}
-use Rattle.cli_words.specs.Command.{Place, start, moved, items_of, all_items, output_in, is_none, task_of, kind_of, needs_output, task_command, task_if, gen_file, gen_output, gen_numbered, gen_of, command_by, command_of, item_extruders, IsTask, IsSound}
+use Rattle.cli_words.specs.Choices.{Piece, alone, taking, lacking, Chosen, settings, mesh, extruder, everything, pair, output, workers, journal, nothing, cut, words_in, is_settings, is_mesh, or_fault, if_within, numeral, number_of, extruder_if, workers_if, extruder_of, workers_of, numbered, alone_of, pair_at, choice_of, with_choice, read, choices_of}
+use Rattle.cli_words.specs.Command.{Context, start, moved, items_of, all_items, output_in, workers_or, is_none, task_of, kind_of, needs_output, task_command, task_if, gen_file, gen_output, gen_numbered, gen_of, command_by, command_of, item_extruders, IsTask, IsSound}
 use Rattle.cli_words.specs.declared.choice.Taker.{Taker}
 use Rattle.cli_words.specs.declared.choice.Taker.TheVariants as taker
 use Rattle.cli_words.specs.declared.read.Kind.{Kind}
@@ -14,58 +14,64 @@ use Rattle.cli_words.specs.declared.command.Command.{Command}
 use Rattle.cli_words.specs.declared.command.WordFault.{WordFault}
 use Rattle.cli_words.specs.declared.command.WordFault.TheVariants.{BadWord, NoInput, NoOutput}
 
--- a mesh behind so many comes before the seventeenth, and an extruder is below 8
+-- a number lies within bounds, where there is one
+abbrev pub IfWithin : ℕ → ℕ → Option ℕ → Type 0
+IfWithin least greatest None = Unit {0}
+IfWithin least greatest (Some n) = (least ≤ n) × (n ≤ greatest)
+
+-- a mesh behind so many comes before the seventeenth, an extruder is below 8, and workers are 1 to 64
 abbrev pub IsFine : ℕ → Chosen → Type 0
 IsFine meshes (mesh w) = meshes < 16
-IsFine meshes (extruder n) = n < 8
+IsFine meshes (extruder n) = (0 ≤ n) × (n ≤ 7)
+IsFine meshes (workers n) = (1 ≤ n) × (n ≤ 64)
 IsFine meshes c = Unit {0}
 
 abbrev pub IfFine : ℕ → Option Chosen → Type 0
 IfFine meshes None = Unit {0}
 IfFine meshes (Some c) = IsFine meshes c
 
-both_true : (a b : Bool) → (a && b) ≡ true → b ≡ true
-both_true true b e = e
+both_true : (a b : Bool) → (a && b) ≡ true → (a ≡ true) × (b ≡ true)
+both_true true b e = (refl, e)
 both_true false b e = cc
 
-abbrev pub IfBelow : Option ℕ → Type 0
-IfBelow None = Unit {0}
-IfBelow (Some n) = n < 8
+within_if : (least greatest n : ℕ) (b : Bool) → (nat_le least n && nat_le n greatest) ≡ b → IfWithin least greatest (cond b (Some n) None)
+within_if least greatest n true e =
+    let both = both_true (nat_le least n) (nat_le n greatest) e in
+    (leb-true least n both.0, leb-true n greatest both.1)
+within_if least greatest n false e = tt
 
-below_if : (n : ℕ) (b : Bool) → (nat_le 0 n && nat_le n 7) ≡ b → IfBelow (cond b (Some n) None)
-below_if n true e = let le : n ≤ 7 = leb-true n 7 (both_true (nat_le 0 n) (nat_le n 7) e) in omega arith
-below_if n false e = tt
+if_within_is : (least greatest : ℕ) (o : Option ℕ) → IfWithin least greatest (if_within least greatest o)
+if_within_is least greatest None = tt
+if_within_is least greatest (Some n) = within_if least greatest n (nat_le least n && nat_le n greatest) refl
 
-below_within : (o : Option ℕ) → IfBelow (if_within 0 7 o)
-below_within None = tt
-below_within (Some n) = below_if n (nat_le 0 n && nat_le n 7) refl
+within_cond : (least greatest : ℕ) (b : Bool) (x y : Option ℕ) → IfWithin least greatest x → IfWithin least greatest y → IfWithin least greatest (cond b x y)
+within_cond least greatest true x y p q = p
+within_cond least greatest false x y p q = q
 
-below_cond : (b : Bool) (x y : Option ℕ) → IfBelow x → IfBelow y → IfBelow (cond b x y)
-below_cond true x y p q = p
-below_cond false x y p q = q
-
-below_number : (ds : List ℕ) → IfBelow (number_of 1 0 7 ds)
-below_number ds = below_cond (nat_le 1 (length ds) && nat_le (length ds) 1) (if_within 0 7 (numeral ds)) None (below_within (numeral ds)) tt
+number_within : (most least greatest : ℕ) (ds : List ℕ) → IfWithin least greatest (number_of most least greatest ds)
+number_within most least greatest ds =
+    within_cond least greatest (nat_le 1 (length ds) && nat_le (length ds) most) (if_within least greatest (numeral ds)) None
+    (if_within_is least greatest (numeral ds)) tt
 
 fine_cond : (m : ℕ) (b : Bool) (x y : Option Chosen) → IfFine m x → IfFine m y → IfFine m (cond b x y)
 fine_cond m true x y p q = p
 fine_cond m false x y p q = q
 
-fine_extruder : (m : ℕ) (o : Option ℕ) → IfBelow o → IfFine m (extruder_if o)
+fine_extruder : (m : ℕ) (o : Option ℕ) → IfWithin 0 7 o → IfFine m (extruder_if o)
 fine_extruder m None h = tt
 fine_extruder m (Some n) h = h
 
-fine_workers : (m : ℕ) (o : Option ℕ) → IfFine m (workers_if o)
-fine_workers m None = tt
-fine_workers m (Some n) = tt
+fine_workers : (m : ℕ) (o : Option ℕ) → IfWithin 1 64 o → IfFine m (workers_if o)
+fine_workers m None h = tt
+fine_workers m (Some n) h = h
 
 fine_numbered : (m : ℕ) (w : List ℕ) → IfFine m (numbered w)
 fine_numbered m [] = tt
 fine_numbered m (a ∷ []) = tt
 fine_numbered m (a ∷ b ∷ ds) =
-    let others = cond (a == 45 && b == 109) (workers_if (number_of 2 1 64 ds)) None in
-    fine_cond m (a == 45 && b == 101) (extruder_if (number_of 1 0 7 ds)) others (fine_extruder m (number_of 1 0 7 ds) (below_number ds))
-    (fine_cond m (a == 45 && b == 109) (workers_if (number_of 2 1 64 ds)) None (fine_workers m (number_of 2 1 64 ds)) tt)
+    fine_cond m (a == 45 && b == 101) (extruder_of ds) (cond (a == 45 && b == 109) (workers_of ds) None)
+    (fine_extruder m (number_of 1 0 7 ds) (number_within 1 0 7 ds))
+    (fine_cond m (a == 45 && b == 109) (workers_of ds) None (fine_workers m (number_of 2 1 64 ds) (number_within 2 1 64 ds)) tt)
 
 fine_alone : (m : ℕ) (w : List ℕ) → IfFine m (alone_of w)
 fine_alone m w =
@@ -108,9 +114,10 @@ fine_choice files m n lacking = tt
 fine_choice files m n (alone w) = fine_or_fault m n (alone_of w) (fine_alone m w)
 fine_choice files m n (taking t w) = fine_taking files m n t w
 
--- at most 16 meshes, and extruders below 8
+-- an extruder is below 8, and workers are 1 to 64
 abbrev pub IsBelow : Chosen → Type 0
-IsBelow (extruder n) = n < 8
+IsBelow (extruder n) = (0 ≤ n) × (n ≤ 7)
+IsBelow (workers n) = (1 ≤ n) × (n ≤ 64)
 IsBelow c = Unit {0}
 
 pub record AreFine (cs : List Chosen) : Type 0 where
@@ -128,7 +135,7 @@ fine_below m (extruder n) h = h
 fine_below m everything h = tt
 fine_below m (pair a b) h = tt
 fine_below m (output w) h = tt
-fine_below m (workers n) h = tt
+fine_below m (workers n) h = h
 fine_below m journal h = tt
 fine_below m nothing h = tt
 
@@ -171,7 +178,7 @@ fine_choices : (ws : List (List ℕ)) → IfAllFine (choices_of ws)
 fine_choices ws = fine_read 2 [] (cut None ws) (record { few = omega arith; below = tt })
 
 -- the meshes of items are those that the choices name
-count_item : (p : Place) (c : Chosen) (cs : List Chosen) → length (item_extruders (all_items (moved p c) cs)) ≡ count_by is_mesh cs → length (item_extruders (items_of p c ++ all_items (moved p c) cs)) ≡ count_by is_mesh (c ∷ cs)
+count_item : (p : Context) (c : Chosen) (cs : List Chosen) → length (item_extruders (all_items (moved p c) cs)) ≡ count_by is_mesh cs → length (item_extruders (items_of p c ++ all_items (moved p c) cs)) ≡ count_by is_mesh (c ∷ cs)
 count_item p (settings w) cs e = grind (arith, common_steps)
 count_item p (mesh w) cs e = grind (arith, common_steps)
 count_item p (extruder n) cs e = grind (arith, common_steps)
@@ -182,25 +189,25 @@ count_item p (workers n) cs e = grind (arith, common_steps)
 count_item p journal cs e = grind (arith, common_steps)
 count_item p nothing cs e = grind (arith, common_steps)
 
-count_items : (p : Place) (cs : List Chosen) → length (item_extruders (all_items p cs)) ≡ count_by is_mesh cs
+count_items : (p : Context) (cs : List Chosen) → length (item_extruders (all_items p cs)) ≡ count_by is_mesh cs
 count_items p [] = refl
 count_items p (c ∷ cs) = count_item p c cs (count_items (moved p c) cs)
 
 abbrev pub AreBelow : List ℕ → Type 0
 AreBelow es = AllByRecursion (λ e. e < 8) es
 
-below_place : (p : Place) (c : Chosen) → p.extruder < 8 → IsBelow c → (moved p c).extruder < 8
-below_place p (settings w) h k = h
-below_place p (mesh w) h k = h
-below_place p (extruder n) h k = k
-below_place p everything h k = h
-below_place p (pair a b) h k = h
-below_place p (output w) h k = h
-below_place p (workers n) h k = h
-below_place p journal h k = h
-below_place p nothing h k = h
+below_context : (p : Context) (c : Chosen) → p.extruder < 8 → IsBelow c → (moved p c).extruder < 8
+below_context p (settings w) h k = h
+below_context p (mesh w) h k = h
+below_context p (extruder n) h k = let most = k.1 in omega (arith, most)
+below_context p everything h k = h
+below_context p (pair a b) h k = h
+below_context p (output w) h k = h
+below_context p (workers n) h k = h
+below_context p journal h k = h
+below_context p nothing h k = h
 
-below_item : (p : Place) (c : Chosen) (cs : List Chosen) → p.extruder < 8 → AreBelow (item_extruders (all_items (moved p c) cs)) → AreBelow (item_extruders (items_of p c ++ all_items (moved p c) cs))
+below_item : (p : Context) (c : Chosen) (cs : List Chosen) → p.extruder < 8 → AreBelow (item_extruders (all_items (moved p c) cs)) → AreBelow (item_extruders (items_of p c ++ all_items (moved p c) cs))
 below_item p (settings w) cs h k = k
 below_item p (mesh w) cs h k = (h, k)
 below_item p (extruder n) cs h k = k
@@ -211,21 +218,38 @@ below_item p (workers n) cs h k = k
 below_item p journal cs h k = k
 below_item p nothing cs h k = k
 
-below_items : (p : Place) (cs : List Chosen) → p.extruder < 8 → AllByRecursion IsBelow cs → AreBelow (item_extruders (all_items p cs))
+below_items : (p : Context) (cs : List Chosen) → p.extruder < 8 → AllByRecursion IsBelow cs → AreBelow (item_extruders (all_items p cs))
 below_items p [] h k = tt
-below_items p (c ∷ cs) h k = below_item p c cs h (below_items (moved p c) cs (below_place p c h k.0) k.1)
+below_items p (c ∷ cs) h k = below_item p c cs h (below_items (moved p c) cs (below_context p c h k.0) k.1)
 
 all_from : (P : ℕ → Type 0) (xs : List ℕ) → AllByRecursion P xs → All P xs
 all_from P [] h k d lt = absurd (omega arith)
 all_from P (x ∷ xs) h zero d lt = h.0
 all_from P (x ∷ xs) h (suc k) d lt = all_from P xs h.1 k d (omega arith)
 
+-- how many workers there are, behind choices of such
+some_workers : (n : ℕ) (cs : List Chosen) → (1 ≤ n) × (n ≤ 64) → AllByRecursion IsBelow cs → (1 ≤ fold workers_or n cs) × (fold workers_or n cs ≤ 64)
+some_workers n [] h k = h
+some_workers n (settings w ∷ cs) h k = some_workers n cs h k.1
+some_workers n (mesh w ∷ cs) h k = some_workers n cs h k.1
+some_workers n (extruder e ∷ cs) h k = some_workers n cs h k.1
+some_workers n (everything ∷ cs) h k = some_workers n cs h k.1
+some_workers n (pair a b ∷ cs) h k = some_workers n cs h k.1
+some_workers n (output w ∷ cs) h k = some_workers n cs h k.1
+some_workers n (workers m ∷ cs) h k = some_workers m cs k.0 k.1
+some_workers n (journal ∷ cs) h k = some_workers n cs h k.1
+some_workers n (nothing ∷ cs) h k = some_workers n cs h k.1
+
 is_task : (cs : List Chosen) → AreFine cs → (count_by is_mesh cs == 0) ≡ false → IsTask (task_of cs)
 is_task cs h e =
     let same : length (item_extruders (all_items start cs)) ≡ count_by is_mesh cs = count_items start cs in
     let ne : count_by is_mesh cs ≡ 0 → ⊥ = eqb-false (count_by is_mesh cs) 0 e in
     let some : 0 < count_by is_mesh cs = omega (arith, ne) in
+    let workers = some_workers 4 cs (omega arith, omega arith) h.below in
+    let least = workers.0 in
     record {
+      a_worker = omega (arith, least);
+      few_workers = workers.1;
       some = omega (arith, same, some);
       few = omega (arith, same, h.few);
       below_eight = all_from (λ n. n < 8) (item_extruders (all_items start cs)) (below_items start cs (omega arith) h.below);

@@ -72,11 +72,19 @@ abbrev pub workers_if : Option ℕ → Option Chosen
 workers_if None = None
 workers_if (Some n) = Some (workers n)
 
--- `-e` and one digit from 0 to 7, or `-m` and a number from 1 to 64 of at most two digits
+-- the extruder that one digit from 0 to 7 names
+abbrev pub extruder_of : List ℕ → Option Chosen
+extruder_of ds = extruder_if (number_of 1 0 7 ds)
+
+-- the workers that at most two digits count, from 1 to 64
+abbrev pub workers_of : List ℕ → Option Chosen
+workers_of ds = workers_if (number_of 2 1 64 ds)
+
+-- `-e` and an extruder, or `-m` and a count of workers
 abbrev pub numbered : List ℕ → Option Chosen
 numbered (a ∷ b ∷ ds) =
-    cond (a == 45 && b == 101) (extruder_if (number_of 1 0 7 ds))
-    (cond (a == 45 && b == 109) (workers_if (number_of 2 1 64 ds)) None)
+    cond (a == 45 && b == 101) (extruder_of ds)
+    (cond (a == 45 && b == 109) (workers_of ds) None)
 numbered (a ∷ []) = None
 numbered [] = None
 
@@ -88,17 +96,21 @@ alone_of w =
     (cond (bytes_eq w (codes "-p")) (Some nothing)
     (cond (bytes_eq w (codes "--journal")) (Some journal) (numbered w))))
 
--- a key ends at the first `=`
+-- a key that ends before the byte of that number, and the value behind that byte
 abbrev pub pair_at : List ℕ → Option ℕ → Option Chosen
 pair_at w None = None
 pair_at w (Some i) = Some (pair (take i w) (drop (i + 1) w))
+
+-- a key and a value with the first `=` between them
+abbrev pub pair_of : List ℕ → Option Chosen
+pair_of w = pair_at w (position (λ c. c == 61) w)
 
 -- what a word chooses behind one that takes it
 abbrev pub taken_of : Taker → List ℕ → Option Chosen
 taken_of Settings w = Some (settings w)
 taken_of Mesh w = Some (mesh w)
 taken_of Output w = Some (output w)
-taken_of Pair w = pair_at w (position (λ c. c == 61) w)
+taken_of Pair w = pair_of w
 
 -- a settings file is chosen
 abbrev pub is_settings : Chosen → Bool

@@ -16,35 +16,31 @@ use Rattle.cli_words.specs.declared.read.Kind.TheVariants as kind
 use Rattle.cli_words.specs.Choices.{Chosen, settings, mesh, extruder, everything, pair, output, workers, journal, is_mesh, number_of, choices_of}
 
 -- what later pairs belong to, the extruder of later meshes, and the meshes so far
-pub record Place : Type 0 where
+pub record Context : Type 0 where
   pub scope : Scope
   pub extruder : ℕ
   pub meshes : ℕ
 
 -- before any choice
-abbrev pub start : Place
+abbrev pub start : Context
 start = record { scope = scope.Global; extruder = 0; meshes = 0 }
 
 -- what later choices belong to
-abbrev pub moved : Place → Chosen → Place
+abbrev pub moved : Context → Chosen → Context
 moved p (extruder n) = record { scope = scope.Extruder n; extruder = n; meshes = p.meshes }
 moved p everything = record { scope = scope.Global; extruder = p.extruder; meshes = p.meshes }
 moved p (mesh name) = record { scope = scope.Mesh p.meshes; extruder = p.extruder; meshes = p.meshes + 1 }
 moved p c = p
 
--- the place behind these choices
-abbrev pub place_after : List Chosen → Place
-place_after cs = fold moved start cs
-
 -- what a choice adds to a task
-abbrev pub items_of : Place → Chosen → List Item
+abbrev pub items_of : Context → Chosen → List Item
 items_of p (settings name) = item.Settings name ∷ []
 items_of p (mesh name) = item.Mesh name p.extruder ∷ []
 items_of p (pair key value) = item.Pair (record { scope = p.scope; key = key; value = Words value }) ∷ []
 items_of p c = []
 
 -- what all choices add, in order
-abbrev pub all_items : Place → List Chosen → List Item
+abbrev pub all_items : Context → List Chosen → List Item
 all_items p [] = []
 all_items p (c ∷ cs) = items_of p c ++ all_items (moved p c) cs
 
@@ -163,8 +159,10 @@ item_extruders (item.Pair p ∷ is) = item_extruders is
 item_extruders (item.Settings name ∷ is) = item_extruders is
 item_extruders (item.Mesh name e ∷ is) = e ∷ item_extruders is
 
--- a task has 1 to 16 meshes, each with an extruder below 8
+-- a task has 1 to 64 workers, and 1 to 16 meshes, each with an extruder below 8
 pub record IsTask (t : Task) : Type 0 where
+  pub a_worker : 0 < t.workers
+  pub few_workers : t.workers ≤ 64
   pub some : 0 < length (item_extruders t.items)
   pub few : length (item_extruders t.items) ≤ 16
   pub below_eight : All (λ e. e < 8) (item_extruders t.items)

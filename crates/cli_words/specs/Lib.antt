@@ -1,5 +1,4 @@
-pub mod Answer
 pub mod Choices
 pub mod Command
-pub mod Drafts
-pub mod Seen
+pub mod Faults
+pub mod Inner

@@ -1,8 +1,8 @@
 // What a word chooses, with the word behind it where it takes one.
 
 ghost use Rattle.std.specs.Prelude.{◌≡◌, ◌+◌, ◌<◌, ◌≤◌, ◌==◌, ◌∷◌, length, map, drop, position, string_bytes, MatchResult, IfSome, IfOk, true, Ok, Err, None, option_map};
-ghost use Rattle.cli_words.specs.Choices.{taker_of, cut, words_in, numeral, number_of, extruder_if, workers_if, numbered, alone_of, pair_at, taken_of, is_full, or_fault, is_mesh, choice_of};
-ghost use Rattle.cli_words.specs.Seen.{seen_piece, seen};
+ghost use Rattle.cli_words.specs.Choices.{taker_of, cut, words_in, numeral, number_of, extruder_of, workers_of, numbered, alone_of, pair_of, taken_of, is_full, or_fault, is_mesh, choice_of};
+ghost use Rattle.cli_words.specs.Inner.Seen.{seen_piece, seen};
 
 /// A word that takes the next one.
 #[derive(Clone, Copy, PartialEq, Eq)]
@@ -44,7 +44,7 @@ pub enum WordPiece<'a> {
 
 impl WordPiece<'_> {
     ghost use Rattle.cli_words.specs.Choices.{words_in};
-    ghost use Rattle.cli_words.specs.Seen.{seen_piece};
+    ghost use Rattle.cli_words.specs.Inner.Seen.{seen_piece};
 
     /// How many words it has.
     pub fn words(self) -> usize
@@ -62,7 +62,8 @@ impl WordPiece<'_> {
 /// The piece that begins with this word.
 pub fn piece_at(words: &[String], at: usize) -> WordPiece<'_>
     requires { at < length words.now }
-    ensures exact { cut None (map string_bytes (drop at words.now)) ≡ seen_piece result ∷ cut None (map string_bytes (drop (at + words_in (seen_piece result)) words.now)) }
+    ensures exact { cut None (map string_bytes (drop at words.now))
+        ≡ seen_piece result ∷ cut None (map string_bytes (drop (at + words_in (seen_piece result)) words.now)) }
     ensures within { at + words_in (seen_piece result) ≤ length words.now }
 {
     let word = words[at].as_str();
@@ -94,7 +95,7 @@ pub enum Choice<'a> {
 
 impl Choice<'_> {
     ghost use Rattle.cli_words.specs.Choices.{is_settings, is_mesh};
-    ghost use Rattle.cli_words.specs.Seen.{seen};
+    ghost use Rattle.cli_words.specs.Inner.Seen.{seen};
 
     pub fn is_settings(self) -> bool
         ensures { result ≡ is_settings (seen self.entry) }
@@ -154,7 +155,7 @@ pub fn number_of(digits: &[u8], most: usize, least: u64, greatest: u64) -> Optio
 }
 
 fn extruder_of(digits: &[u8]) -> Option<Choice<'_>>
-    ensures { option_map seen result ≡ extruder_if (number_of 1 0 7 digits.now) }
+    ensures { option_map seen result ≡ extruder_of digits.now }
 {
     match number_of(digits, 1, 0, 7) {
         None => None,
@@ -163,7 +164,7 @@ fn extruder_of(digits: &[u8]) -> Option<Choice<'_>>
 }
 
 fn workers_of(digits: &[u8]) -> Option<Choice<'_>>
-    ensures { option_map seen result ≡ workers_if (number_of 2 1 64 digits.now) }
+    ensures { option_map seen result ≡ workers_of digits.now }
 {
     match number_of(digits, 2, 1, 64) {
         None => None,
@@ -212,7 +213,7 @@ fn behind(word: &[u8], at: usize) -> &[u8]
 }
 
 fn pair_of(word: &[u8]) -> Option<Choice<'_>>
-    ensures { option_map seen result ≡ pair_at word.now (position (λ c. c == 61) word.now) }
+    ensures { option_map seen result ≡ pair_of word.now }
 {
     match equals_sign_in(word) {
         None => None,
@@ -245,7 +246,8 @@ fn is_full(taker: Taker, files: usize, meshes: usize) -> bool
 }
 
 fn or_fault(number: u64, choice: Option<Choice<'_>>) -> Result<Choice<'_>, u64>
-    ensures { MatchResult result (λ c. or_fault number (option_map seen choice.entry) ≡ Ok (seen c)) (λ n. or_fault number (option_map seen choice.entry) ≡ Err n) }
+    ensures { let due = or_fault number (option_map seen choice.entry) in
+        MatchResult result (λ c. due ≡ Ok (seen c)) (λ n. due ≡ Err n) }
 {
     match choice {
         None => Err(number),
@@ -262,7 +264,8 @@ pub fn choice_of(
 ) -> Result<Choice<'_>, u64>
     requires { number < 18446744073709551615 }
     ensures meshes_few { IfOk result (λ c. is_mesh (seen c) ≡ true → meshes < 16) }
-    ensures exact { MatchResult result (λ c. choice_of number files meshes (seen_piece piece.entry) ≡ Ok (seen c)) (λ n. choice_of number files meshes (seen_piece piece.entry) ≡ Err n) }
+    ensures exact { let due = choice_of number files meshes (seen_piece piece.entry) in
+        MatchResult result (λ c. due ≡ Ok (seen c)) (λ n. due ≡ Err n) }
 {
     match piece {
         WordPiece::Lacking => Err(number),

@@ -3,7 +3,7 @@
 ghost use Rattle.std.specs.Prelude.{◌≡◌, ◌<◌, ◌⊎◌, true, List, length, map, string_bytes, MatchResult, OnOk, Ok, Err, IsErr};
 ghost use Rattle.cli_words.specs.Choices.{Chosen, is_mesh, choices_of};
 ghost use Rattle.cli_words.specs.Command.{task_of};
-ghost use Rattle.cli_words.specs.Seen.{seen};
+ghost use Rattle.cli_words.specs.Inner.Seen.{seen};
 
 use crate::choice::{Choice, choice_of, piece_at};
 use crate::command::{Item, Task, WordFault};
@@ -25,7 +25,7 @@ pub struct Draft {
 }
 
 impl Draft {
-    ghost use Rattle.cli_words.specs.Drafts.{Adds};
+    ghost use Rattle.cli_words.specs.Inner.Drafts.{Adds};
 
     fn add(&mut self, alloc: Global, choice: Choice<'_>) -> Result<(), NoMemory>
         requires meshes_few { is_mesh (seen choice) ≡ true → self.old.meshes < 16 }
@@ -69,7 +69,8 @@ impl Draft {
 
 /// The task that the words make. The first of them is word 2.
 pub fn drafted(alloc: Global, words: &[String]) -> Result<Task, WordFault>
-    ensures { MatchResult result (λ t. (cs : List Chosen) × (choices_of (map string_bytes words.now) ≡ Ok cs) × (t ≡ task_of cs)) (λ e. (e ≡ WordFault.NoMemory) ⊎ IsErr (choices_of (map string_bytes words.now))) }
+    ensures { let due = choices_of (map string_bytes words.now) in
+        MatchResult result (λ t. (cs : List Chosen) × (due ≡ Ok cs) × (t ≡ task_of cs)) (λ e. (e ≡ WordFault.NoMemory) ⊎ IsErr due) }
 {
     let mut draft = Draft {
         workers: 4,

@@ -1,11 +1,11 @@
 // Reads a list of words.
 
-ghost use Rattle.std.specs.Prelude.{◌≡◌, ◌↔◌, ◌⊎◌, ◌≢◌, ℕ, length, map, string_bytes, IfOk, IsOk, Ok, Err};
+ghost use Rattle.std.specs.Prelude.{◌≡◌, map, string_bytes, IfOk, MatchResult, Ok};
 ghost use Rattle.std.specs.List.{All};
 ghost use Rattle.std.specs.Str.{IsUtf8};
 ghost use Rattle.cli_words.specs.Choices.{choices_of};
 ghost use Rattle.cli_words.specs.Command.{kind_of, task_command, needs_output, task_if, gen_file, gen_output, gen_of, command_of, names_of, IsSound};
-ghost use Rattle.cli_words.specs.Answer.{Gives};
+ghost use Rattle.cli_words.specs.Faults.{IsWordFault};
 
 use crate::choice::number_of;
 use crate::command::{Command, Task, WordFault};
@@ -59,7 +59,8 @@ fn task_command(kind: Kind, task: Task) -> Command
 }
 
 fn read_task(alloc: Global, kind: Kind, words: &[String]) -> Result<Command, WordFault>
-    ensures { Gives (task_if kind (choices_of (map string_bytes words.now))) result }
+    ensures { let due = task_if kind (choices_of (map string_bytes words.now)) in
+        MatchResult result (λ c. due ≡ Ok c) (IsWordFault due) }
 {
     let found = match look_over(words) {
         Err(index) => return Err(WordFault::BadWord { index }),
@@ -78,7 +79,8 @@ fn read_task(alloc: Global, kind: Kind, words: &[String]) -> Result<Command, Wor
 }
 
 fn read_gen_file(alloc: Global, number: u32, words: &[String]) -> Result<Command, WordFault>
-    ensures { Gives (gen_file number (map string_bytes words.now)) result }
+    ensures { let due = gen_file number (map string_bytes words.now) in
+        MatchResult result (λ c. due ≡ Ok c) (IsWordFault due) }
 {
     match words {
         [] => Err(WordFault::BadWord { index: 3 }),
@@ -91,7 +93,8 @@ fn read_gen_file(alloc: Global, number: u32, words: &[String]) -> Result<Command
 }
 
 fn read_gen_output(alloc: Global, number: u32, words: &[String]) -> Result<Command, WordFault>
-    ensures { Gives (gen_output number (map string_bytes words.now)) result }
+    ensures { let due = gen_output number (map string_bytes words.now) in
+        MatchResult result (λ c. due ≡ Ok c) (IsWordFault due) }
 {
     match words {
         [] => Err(WordFault::NoOutput),
@@ -106,7 +109,8 @@ fn read_gen_output(alloc: Global, number: u32, words: &[String]) -> Result<Comma
 }
 
 fn read_gen(alloc: Global, words: &[String]) -> Result<Command, WordFault>
-    ensures { Gives (gen_of (map string_bytes words.now)) result }
+    ensures { let due = gen_of (map string_bytes words.now) in
+        MatchResult result (λ c. due ≡ Ok c) (IsWordFault due) }
 {
     match words {
         [] => Err(WordFault::BadWord { index: 2 }),
@@ -121,7 +125,8 @@ fn read_gen(alloc: Global, words: &[String]) -> Result<Command, WordFault>
 
 #[tactic(auto, unfolding(crate::specs::Command::command_of))]
 fn read_command(alloc: Global, words: &[String]) -> Result<Command, WordFault>
-    ensures { Gives (command_of (map string_bytes words.now)) result }
+    ensures { let due = command_of (map string_bytes words.now) in
+        MatchResult result (λ c. due ≡ Ok c) (IsWordFault due) }
 {
     match words {
         [] => Err(WordFault::BadWord { index: 1 }),
@@ -138,11 +143,8 @@ fn read_command(alloc: Global, words: &[String]) -> Result<Command, WordFault>
 /// A fault is the first of: the first word at fault, a task without a mesh, a command that writes
 /// without a file to write. Want of memory comes only where there is no other fault.
 pub fn read_words(alloc: Global, words: &[String]) -> Result<Command, WordFault>
-    ensures command { IfOk result (λ c. command_of (map string_bytes words.now) ≡ Ok c) }
-    ensures bad_word { (n : ℕ) → (result ≡ Err (WordFault.BadWord n)) ↔ (command_of (map string_bytes words.now) ≡ Err (WordFault.BadWord n)) }
-    ensures no_input { (result ≡ Err WordFault.NoInput) ↔ (command_of (map string_bytes words.now) ≡ Err WordFault.NoInput) }
-    ensures no_output { (result ≡ Err WordFault.NoOutput) ↔ (command_of (map string_bytes words.now) ≡ Err WordFault.NoOutput) }
-    ensures no_memory { result ≡ Err WordFault.NoMemory → IsOk (command_of (map string_bytes words.now)) }
+    ensures command { let due = command_of (map string_bytes words.now) in
+        MatchResult result (λ c. due ≡ Ok c) (IsWordFault due) }
     ensures names { IfOk result (λ c. All IsUtf8 (names_of c)) }
     ensures sound { IfOk result IsSound }
 {

@@ -3,7 +3,8 @@
 ghost use Rattle.std.specs.Prelude.{◌≡◌, ◌+◌, ◌++◌, ◌∷◌, [], List, length, map, cond, string_bytes, MatchResult, Ok, Err, count_by, Option, ℕ, ◌<◌};
 ghost use Rattle.cli_words.specs.Choices.{Chosen, is_settings, is_mesh, choices_of};
 ghost use Rattle.cli_words.specs.Command.{is_none, output_in, output_or};
-ghost use Rattle.cli_words.specs.Seen.{seen};
+ghost use Rattle.cli_words.specs.Inner.Drafts.{HasFound};
+ghost use Rattle.cli_words.specs.Inner.Seen.{seen};
 
 use crate::choice::{Choice, choice_of, piece_at};
 
@@ -32,7 +33,8 @@ fn count_more(count: usize, more: bool) -> usize
 
 /// What the words hold, or the number of the first at fault. The first of them is word 2.
 pub fn look_over(words: &[String]) -> Result<Survey, u64>
-    ensures { MatchResult result (λ s. (cs : List Chosen) × (choices_of (map string_bytes words.now) ≡ Ok cs) × (s.meshes ≡ count_by is_mesh cs) × (s.lacks_output ≡ is_none (output_in cs))) (λ n. choices_of (map string_bytes words.now) ≡ Err n) }
+    ensures { let due = choices_of (map string_bytes words.now) in
+        MatchResult result (λ s. (cs : List Chosen) × (due ≡ Ok cs) × HasFound cs s) (λ n. due ≡ Err n) }
 {
     let mut meshes = 0;
     let mut lacks_output = true;

@@ -1,7 +1,7 @@
 use Rattle.std.proofs.Common.{ℕ, List, ◌≡◌, ◌++◌, codes, refl}
 use Rattle.std.proofs.lemmas.List.{append_assoc}
 use Rattle.std.proofs.lemmas.Result.{err_from_is_err_and}
-use Rattle.answers.specs.Said.{scope_text}
+use Rattle.answers.specs.Lines.{scope_text}
 use Rattle.answers.proofs.pieces.put_key.Goals as goal
 
 by_first : (xs ys key : List ℕ) → xs ++ ys ++ codes " " ++ key ≡ xs ++ (ys ++ (codes " " ++ key))

@@ -1,7 +1,7 @@
 use Rattle.std.proofs.Common.{◌+◌, ◌∙◌, sym, drop, map, arith}
 use Rattle.std.specs.Prelude.{string_bytes}
 use Rattle.cli_words.specs.Choices.{words_in, is_settings, is_mesh}
-use Rattle.cli_words.specs.Seen.{seen_piece, seen}
+use Rattle.cli_words.specs.Inner.Seen.{seen_piece, seen}
 use Rattle.cli_words.proofs.Reading.{drafted_more, count_few, if_ok, adds_meshes}
 use Rattle.cli_words.proofs.draft.drafted.Goals as goal
 

@@ -1,7 +1,7 @@
 use Rattle.std.proofs.Common.{◌+◌, ◌∙◌, ap, Bool, cond, drop, map, arith}
 use Rattle.std.specs.Prelude.{string_bytes}
 use Rattle.cli_words.specs.Choices.{words_in}
-use Rattle.cli_words.specs.Seen.{seen_piece, seen}
+use Rattle.cli_words.specs.Inner.Seen.{seen_piece, seen}
 use Rattle.cli_words.proofs.Reading.{surveyed_more, count_few}
 use Rattle.cli_words.proofs.survey.look_over.Goals as goal
 
