@@ -5,7 +5,7 @@
 mod gaps;
 mod joins;
 mod laws;
-mod queue;
+mod nearest;
 mod stitches;
 
 pub use laws::closes_the_least_gap;

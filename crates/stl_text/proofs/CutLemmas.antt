@@ -1,7 +1,7 @@
 -- The first line and the first word of a text.
 use Rattle.std.proofs.Common.{ℕ, suc, ◌≡◌, ◌<◌, ◌≤◌, ◌+◌, Bool, true, false, not, cond, List, [], ◌∷◌, length, take, drop, refl, arith, ap, one-add, eqb}
 use Rattle.stl_text.specs.Words.{lines_of, words_of, onto_first, is_blank}
-use Rattle.stl_text.specs.Cuts.{line_len, blank_len, word_len}
+use Rattle.stl_text.specs.Inner.Cuts.{line_len, blank_len, word_len}
 
 line_step : (t : Bool) (b : ℕ) (bs : List ℕ) → (line_len bs < length bs → lines_of bs ≡ take (line_len bs) bs ∷ lines_of (drop (suc (line_len bs)) bs)) → cond (not t) (1 + line_len bs) 0 < suc (length bs) → cond t ([] ∷ lines_of bs) (onto_first b (lines_of bs)) ≡ take (cond (not t) (1 + line_len bs) 0) (b ∷ bs) ∷ lines_of (drop (suc (cond (not t) (1 + line_len bs) 0)) (b ∷ bs))
 line_step true b bs ih h = refl

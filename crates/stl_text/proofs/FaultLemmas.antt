@@ -9,8 +9,8 @@ use Rattle.stl_text.specs.declared.places.Step.TheVariants.{To, Whole, Bad}
 use Rattle.stl_text.specs.declared.gathered.Gathered.{Gathered}
 use Rattle.stl_text.specs.Lines.{read_lines}
 use Rattle.stl_text.specs.Mesh.{HasFacets, Begins, IsFault}
-use Rattle.stl_text.specs.Steps.{step_of, is_end}
-use Rattle.stl_text.specs.Gathers.{Gathers}
+use Rattle.stl_text.specs.Inner.Steps.{step_of, is_end}
+use Rattle.stl_text.specs.Inner.Gathers.{Gathers}
 use Rattle.stl_text.proofs.Runs.{Stand, start, stand_after, then_step, run, run-none, run-append, begins_from_run, none_begins, no_text, text_from_run, ran_text}
 
 -- the next line of a list

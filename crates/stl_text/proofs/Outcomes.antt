@@ -9,7 +9,7 @@ use Rattle.stl_text.specs.declared.faults.StlFault.{StlFault}
 use Rattle.stl_text.specs.declared.faults.StlFault.TheVariants.{BadLine, TooManyTriangles, NoMemory}
 use Rattle.stl_text.specs.Lines.{read_lines}
 use Rattle.stl_text.specs.Mesh.{HasFacets, IsFault, IsMesh, HasTooMany, StlGives, IsNear, triangles_of, is_proper}
-use Rattle.stl_text.specs.Gathers.{IsAnswer}
+use Rattle.stl_text.specs.Inner.Gathers.{IsAnswer}
 use Rattle.stl_text.proofs.Runs.{one_text}
 use Rattle.stl_text.proofs.FaultLemmas.{no_fault, one_fault}
 use Rattle.stl_text.proofs.NearLemmas.{triangles_near}

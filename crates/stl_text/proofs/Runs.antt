@@ -13,7 +13,7 @@ use Rattle.stl_text.specs.declared.places.Step.{Step}
 use Rattle.stl_text.specs.declared.places.Step.TheVariants.{To, Whole, Bad}
 use Rattle.stl_text.specs.Lines.{read_lines}
 use Rattle.stl_text.specs.Mesh.{Solids, no_more, left_open, solid, facet, endsolid, has_words, IsText, Begins}
-use Rattle.stl_text.specs.Steps.{step_of, is_end}
+use Rattle.stl_text.specs.Inner.Steps.{step_of, is_end}
 
 -- a place, and the facets before it
 pub record Stand : Type 0 where

@@ -1,5 +1,6 @@
 -- What a line of an STL text says.
-use Rattle.std.specs.Prelude.{ℕ, ℤ, Bool, true, false, List, [], ◌∷◌, map, Option, Some, None, codes, nat_le, unsigned_abs, if◌then◌else◌}
+use Rattle.std.specs.Prelude.{ℤ, Bool, true, false, List, [], ◌∷◌, map, Option, Some, None, codes, nat_le, unsigned_abs, if◌then◌else◌}
+use Rattle.slice_base.specs.Shapes.{Bytes}
 use Rattle.slice_base.specs.declared.points.Pt3.{Pt3}
 use Rattle.slice_base.specs.Decimal.{decimal_of}
 use Rattle.stl_text.specs.declared.lines.Line.{Line}
@@ -12,7 +13,7 @@ in_range None = None
 in_range (Some v) = if nat_le (unsigned_abs v) 1000000000 then Some v else None
 
 -- a decimal in mm, as whole µm
-abbrev pub coordinate_of : List ℕ → Option ℤ
+abbrev pub coordinate_of : Bytes → Option ℤ
 coordinate_of word = in_range (decimal_of word 3)
 
 -- a corner, where there are all three coordinates
@@ -21,7 +22,7 @@ corner_at (Some x) (Some y) (Some z) = Some (record { x = x; y = y; z = z })
 corner_at x y z = None
 
 -- exactly three coordinates
-abbrev pub corner_of : List (List ℕ) → Option Pt3
+abbrev pub corner_of : List Bytes → Option Pt3
 corner_of (x ∷ y ∷ z ∷ []) = corner_at (coordinate_of x) (coordinate_of y) (coordinate_of z)
 corner_of words = None
 
@@ -31,19 +32,18 @@ vertex_of None = Other
 vertex_of (Some corner) = Vertex corner
 
 -- exactly the word `loop`
-abbrev pub is_loop : List (List ℕ) → Bool
+abbrev pub is_loop : List Bytes → Bool
 is_loop (word ∷ []) = is_keyword word (codes "loop")
 is_loop words = false
 
 -- no word follows
-abbrev pub no_words : List (List ℕ) → Bool
+abbrev pub no_words : List Bytes → Bool
 no_words [] = true
 no_words (word ∷ words) = false
 
--- what the words of a line say
-abbrev pub line_of : List (List ℕ) → Line
-line_of [] = Blank
-line_of (word ∷ words) =
+-- what a line says whose first word is this one, by the words behind it
+abbrev pub line_by : Bytes → List Bytes → Line
+line_by word words =
     if is_keyword word (codes "vertex") then vertex_of (corner_of words)
     else (if is_keyword word (codes "facet") then Facet
     else (if is_keyword word (codes "outer") then (if is_loop words then OuterLoop else Other)
@@ -53,6 +53,11 @@ line_of (word ∷ words) =
     else (if is_keyword word (codes "endsolid") then EndSolid
     else Other))))))
 
+-- what the words of a line say
+abbrev pub line_of : List Bytes → Line
+line_of [] = Blank
+line_of (word ∷ words) = line_by word words
+
 -- all lines of a text
-abbrev pub read_lines : List ℕ → List Line
+abbrev pub read_lines : Bytes → List Line
 read_lines bytes = map (λ line. line_of (words_of line)) (lines_of bytes)

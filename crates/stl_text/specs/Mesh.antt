@@ -1,8 +1,10 @@
 -- ASCII STL as a grammar of whole texts, and what a text means.
 use Rattle.std.specs.Prelude.{ℕ, ◌+◌, ◌≡◌, ◌<◌, ◌≤◌, Bool, true, false, not, ◌&&◌, List, [], ◌∷◌, ◌++◌, length, take, filter, unsigned_abs, Result, Ok, Err}
 use Rattle.std.specs.Ordering.{int_eq}
+use Rattle.slice_base.specs.Shapes.{Bytes}
 use Rattle.slice_base.specs.declared.points.Pt3.{Pt3}
 use Rattle.slice_base.specs.declared.points.Tri.{Tri}
+use Rattle.slice_base.specs.Limits.{max_facets}
 use Rattle.stl_text.specs.declared.faults.StlFault.{StlFault}
 use Rattle.stl_text.specs.declared.faults.StlFault.TheVariants.{BadLine, TooManyTriangles, NoMemory}
 use Rattle.stl_text.specs.declared.lines.Line.{Line}
@@ -28,18 +30,18 @@ abbrev pub IsText : List Line → List Tri → Type 0
 IsText lines facets = Solids false (filter has_words lines) facets
 
 -- the bytes are a whole text with these facets
-abbrev pub HasFacets : List ℕ → List Tri → Type 0
+abbrev pub HasFacets : Bytes → List Tri → Type 0
 HasFacets bytes facets = IsText (read_lines bytes) facets
 
 -- some bytes after these lines make a whole text
 pub record Begins (lines : List Line) : Type 0 where
-  pub more : List ℕ
+  pub more : Bytes
   pub facets : List Tri
   pub whole : IsText (lines ++ read_lines more) facets
 
 -- n is the number of the first line at fault, from 1: the least n such that the first n lines begin
 -- no text, and where all lines begin one that isn't whole, the number after the last line
-pub record IsFault (bytes : List ℕ) (n : ℕ) : Type 0 where
+pub record IsFault (bytes : Bytes) (n : ℕ) : Type 0 where
   pub before : (k : ℕ) → k < n → Begins (take k (read_lines bytes))
   pub here : n ≤ length (read_lines bytes) → ¬ (Begins (take n (read_lines bytes)))
   pub end : length (read_lines bytes) < n → (n ≡ length (read_lines bytes) + 1) × ((facets : List Tri) → ¬ (HasFacets bytes facets))
@@ -57,21 +59,21 @@ abbrev pub triangles_of : List Tri → List Tri
 triangles_of facets = filter is_proper facets
 
 -- the bytes are a whole text with these triangles and not too many facets
-pub record IsMesh (bytes : List ℕ) (triangles : List Tri) : Type 0 where
+pub record IsMesh (bytes : Bytes) (triangles : List Tri) : Type 0 where
   pub facets : List Tri
   pub whole : HasFacets bytes facets
-  pub few : length facets ≤ 1000000
+  pub few : length facets ≤ max_facets
   pub proper : triangles ≡ triangles_of facets
 
 -- the bytes are a whole text with this number of facets, which is too many
-pub record HasTooMany (bytes : List ℕ) (count : ℕ) : Type 0 where
+pub record HasTooMany (bytes : Bytes) (count : ℕ) : Type 0 where
   pub facets : List Tri
   pub whole : HasFacets bytes facets
   pub counted : length facets ≡ count
-  pub many : 1000000 < count
+  pub many : max_facets < count
 
 -- what the bytes give: a mesh, or why they give none; want of memory isn't defined
-abbrev pub StlGives : List ℕ → Result (List Tri) StlFault → Type 0
+abbrev pub StlGives : Bytes → Result (List Tri) StlFault → Type 0
 StlGives bytes (Ok triangles) = IsMesh bytes triangles
 StlGives bytes (Err (BadLine n)) = IsFault bytes n
 StlGives bytes (Err (TooManyTriangles n)) = HasTooMany bytes n

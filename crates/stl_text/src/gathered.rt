@@ -2,7 +2,7 @@
 
 ghost use Rattle.std.specs.Prelude.{◌≡◌, ◌<◌, ◌+◌, ◌^◌, ◌++◌, [], ◌∷◌, List};
 ghost use Rattle.stl_text.specs.Mesh.{same_corner, is_proper};
-ghost use Rattle.stl_text.specs.Gathers.{Gathers};
+ghost use Rattle.stl_text.specs.Inner.Gathers.{Gathers};
 ghost use Rattle.slice_base.specs.declared.points.Tri.{Tri};
 
 use slice_base::{Pt3, Tri};
@@ -19,16 +19,18 @@ pub struct Gathered {
     pub is_short: bool,
 }
 
-fn is_same(p: Pt3, q: Pt3) -> bool
+fn same_corner(p: Pt3, q: Pt3) -> bool
     ensures { result ≡ same_corner p q }
 {
     p.x == q.x && p.y == q.y && p.z == q.z
 }
 
-fn has_three_corners(facet: Tri) -> bool
+fn is_proper(facet: Tri) -> bool
     ensures { result ≡ is_proper facet }
 {
-    !is_same(facet.a, facet.b) && !is_same(facet.b, facet.c) && !is_same(facet.c, facet.a)
+    !same_corner(facet.a, facet.b)
+        && !same_corner(facet.b, facet.c)
+        && !same_corner(facet.c, facet.a)
 }
 
 impl Gathered {
@@ -57,7 +59,7 @@ impl Gathered {
         ensures gathers { (facets : List Tri) → Gathers facets self.old → Gathers (facets ++ facet ∷ []) self.new }
     {
         self.facets += 1;
-        if self.facets > MOST_TRIANGLES || self.is_short || !has_three_corners(facet) {
+        if self.facets > MOST_TRIANGLES || self.is_short || !is_proper(facet) {
             return;
         }
         self.is_short = self.triangles.push(facet).is_err();

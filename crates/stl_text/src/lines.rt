@@ -1,10 +1,10 @@
 // What a line of an STL text says.
 
-ghost use Rattle.std.specs.Prelude.{◌≡◌, ◌∷◌};
+ghost use Rattle.std.specs.Prelude.{◌≡◌};
 ghost use Rattle.stl_text.specs.Words.{words_of};
-ghost use Rattle.stl_text.specs.Lines.{coordinate_of, corner_at, corner_of, vertex_of, is_loop, no_words, line_of};
+ghost use Rattle.stl_text.specs.Lines.{coordinate_of, corner_at, corner_of, vertex_of, is_loop, no_words, line_by, line_of};
 
-use crate::words::{is_this_keyword, split_word};
+use crate::words::{is_keyword, split_word};
 use slice_base::{Pt3, read_decimal};
 
 /// The greatest distance of a corner from the origin along an axis, in µm.
@@ -25,7 +25,7 @@ pub enum Line {
     Other,
 }
 
-fn read_coordinate(word: &[u8]) -> Option<i32>
+fn coordinate_of(word: &[u8]) -> Option<i32>
     ensures { result ≡ coordinate_of word.now }
 {
     match read_decimal(word, 3) {
@@ -40,7 +40,7 @@ fn read_coordinate(word: &[u8]) -> Option<i32>
     }
 }
 
-fn has_no_words(text: &[u8]) -> bool
+fn no_words(text: &[u8]) -> bool
     ensures { result ≡ no_words (words_of text.now) }
 {
     match split_word(text) {
@@ -49,91 +49,91 @@ fn has_no_words(text: &[u8]) -> bool
     }
 }
 
-fn has_loop(text: &[u8]) -> bool
+fn is_loop(text: &[u8]) -> bool
     ensures { result ≡ is_loop (words_of text.now) }
 {
     match split_word(text) {
         None => false,
-        Some((word, rest)) => has_no_words(rest) && is_this_keyword(word, b"loop"),
+        Some((word, rest)) => no_words(rest) && is_keyword(word, b"loop"),
     }
 }
 
-fn corner_from(first: &[u8], second: &[u8], third: &[u8]) -> Option<Pt3>
+fn corner_at(first: &[u8], second: &[u8], third: &[u8]) -> Option<Pt3>
     ensures { result ≡ corner_at (coordinate_of first.now) (coordinate_of second.now) (coordinate_of third.now) }
 {
-    let x = read_coordinate(first)?;
-    let y = read_coordinate(second)?;
-    let z = read_coordinate(third)?;
+    let x = coordinate_of(first)?;
+    let y = coordinate_of(second)?;
+    let z = coordinate_of(third)?;
     Some(Pt3 { x, y, z })
 }
 
-fn read_corner(text: &[u8]) -> Option<Pt3>
+fn corner_of(text: &[u8]) -> Option<Pt3>
     ensures { result ≡ corner_of (words_of text.now) }
 {
     let (first, rest) = split_word(text)?;
     let (second, rest) = split_word(rest)?;
     let (third, rest) = split_word(rest)?;
-    if !has_no_words(rest) {
+    if !no_words(rest) {
         return None;
     }
-    corner_from(first, second, third)
+    corner_at(first, second, third)
 }
 
-fn vertex_line(text: &[u8]) -> Line
+fn vertex_of(text: &[u8]) -> Line
     ensures { result ≡ vertex_of (corner_of (words_of text.now)) }
 {
-    match read_corner(text) {
+    match corner_of(text) {
         None => Line::Other,
         Some(corner) => Line::Vertex(corner),
     }
 }
 
 // A line whose first word is given.
-fn line_after(word: &[u8], rest: &[u8]) -> Line
-    ensures { result ≡ line_of (word.now ∷ words_of rest.now) }
+fn line_by(word: &[u8], rest: &[u8]) -> Line
+    ensures { result ≡ line_by word.now (words_of rest.now) }
 {
-    if is_this_keyword(word, b"vertex") {
-        return vertex_line(rest);
+    if is_keyword(word, b"vertex") {
+        return vertex_of(rest);
     }
-    if is_this_keyword(word, b"facet") {
+    if is_keyword(word, b"facet") {
         return Line::Facet;
     }
-    if is_this_keyword(word, b"outer") {
-        return if has_loop(rest) {
+    if is_keyword(word, b"outer") {
+        return if is_loop(rest) {
             Line::OuterLoop
         } else {
             Line::Other
         };
     }
-    if is_this_keyword(word, b"endloop") {
-        return if has_no_words(rest) {
+    if is_keyword(word, b"endloop") {
+        return if no_words(rest) {
             Line::EndLoop
         } else {
             Line::Other
         };
     }
-    if is_this_keyword(word, b"endfacet") {
-        return if has_no_words(rest) {
+    if is_keyword(word, b"endfacet") {
+        return if no_words(rest) {
             Line::EndFacet
         } else {
             Line::Other
         };
     }
-    if is_this_keyword(word, b"solid") {
+    if is_keyword(word, b"solid") {
         return Line::Solid;
     }
-    if is_this_keyword(word, b"endsolid") {
+    if is_keyword(word, b"endsolid") {
         return Line::EndSolid;
     }
     Line::Other
 }
 
 /// What a line says.
-pub fn read_line(line: &[u8]) -> Line
+pub fn line_of(line: &[u8]) -> Line
     ensures { result ≡ line_of (words_of line.now) }
 {
     match split_word(line) {
         None => Line::Blank,
-        Some((word, rest)) => line_after(word, rest),
+        Some((word, rest)) => line_by(word, rest),
     }
 }

@@ -1,7 +1,7 @@
 // The reader's places in a text.
 
 ghost use Rattle.std.specs.Prelude.{◌≡◌};
-ghost use Rattle.stl_text.specs.Steps.{step_of, is_end};
+ghost use Rattle.stl_text.specs.Inner.Steps.{step_of, is_end};
 
 use crate::lines::Line;
 use slice_base::{Pt3, Tri};
@@ -31,7 +31,7 @@ pub enum Step {
 }
 
 /// Reads one line.
-pub fn advance(place: Place, line: Line) -> Step
+pub fn step_of(place: Place, line: Line) -> Step
     ensures { result ≡ step_of place line }
 {
     match (place, line) {
@@ -50,7 +50,7 @@ pub fn advance(place: Place, line: Line) -> Step
 }
 
 /// Whether a text may end here.
-pub fn may_end(place: Place) -> bool
+pub fn is_end(place: Place) -> bool
     ensures { result ≡ is_end place }
 {
     matches!(place, Place::Outside | Place::InSolid)

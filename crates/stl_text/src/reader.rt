@@ -2,13 +2,14 @@
 
 ghost use Rattle.std.specs.Prelude.{◌≡◌, ◌≤◌, ◌↔◌, ℕ, [], List, All, Err, length, IfOk, IfErr, OnOk, MatchResult};
 ghost use Rattle.slice_base.specs.declared.points.Tri.{Tri};
+ghost use Rattle.slice_base.specs.Limits.{max_facets, max_file_bytes};
 ghost use Rattle.stl_text.specs.Mesh.{HasFacets, IsFault, IsMesh, HasTooMany, IsNear};
-ghost use Rattle.stl_text.specs.Gathers.{Gathers, IsAnswer};
+ghost use Rattle.stl_text.specs.Inner.Gathers.{Gathers, IsAnswer};
 
 use crate::faults::StlFault;
 use crate::gathered::{Gathered, MOST_TRIANGLES};
-use crate::lines::read_line;
-use crate::places::{Place, Step, advance, may_end};
+use crate::lines::line_of;
+use crate::places::{Place, Step, is_end, step_of};
 use crate::words::split_line;
 use slice_base::Tri;
 use std::alloc::Global;
@@ -18,7 +19,7 @@ const LEAST_FACET: usize = 73;
 
 // Reads all lines; the error is the number of the first line at fault.
 fn gather(bytes: &[u8], gathered: &mut Gathered) -> Result<(), u32>
-    requires size { length bytes.now ≤ 268435456 }
+    requires size { length bytes.now ≤ max_file_bytes }
     requires empty { Gathers [] gathered.old }
     ensures ok { OnOk result ((facets : List Tri) × HasFacets bytes.now facets × Gathers facets gathered.new) }
     ensures err { IfErr result (IsFault bytes.now) }
@@ -30,7 +31,7 @@ fn gather(bytes: &[u8], gathered: &mut Gathered) -> Result<(), u32>
         let (line, after) = split_line(rest);
         rest = after;
         number += 1;
-        match advance(place, read_line(line)) {
+        match step_of(place, line_of(line)) {
             Step::Bad => return Err(number),
             Step::To(next) => place = next,
             Step::Whole(facet) => {
@@ -39,7 +40,7 @@ fn gather(bytes: &[u8], gathered: &mut Gathered) -> Result<(), u32>
             }
         }
     }
-    if may_end(place) {
+    if is_end(place) {
         Ok(())
     } else {
         Err(number + 1)
@@ -66,7 +67,7 @@ fn finish(gathered: Gathered) -> Result<Vec<Tri>, StlFault>
 ///
 /// The format is that of 3D Systems' StereoLithography Interface Specification.
 pub fn read_stl(alloc: Global, bytes: &[u8]) -> Result<Vec<Tri>, StlFault>
-    requires { length bytes.now ≤ 268435456 }
+    requires { length bytes.now ≤ max_file_bytes }
 
     ensures mesh { IfOk result (λ v. IsMesh bytes.now v.items) }
     ensures gives { (triangles : List Tri) → IsMesh bytes.now triangles
@@ -76,7 +77,7 @@ pub fn read_stl(alloc: Global, bytes: &[u8]) -> Result<Vec<Tri>, StlFault>
     ensures no_memory { result ≡ Err StlFault.NoMemory → (triangles : List Tri) × IsMesh bytes.now triangles }
 
     ensures near { IfOk result (λ v. All IsNear v.items) }
-    ensures few { IfOk result (λ v. length v.items ≤ 1000000) }
+    ensures few { IfOk result (λ v. length v.items ≤ max_facets) }
 {
     let room = (bytes.len() / LEAST_FACET).min(MOST_TRIANGLES as usize);
     let mut gathered = Gathered::new(alloc, room);

@@ -2,7 +2,7 @@
 
 ghost use Rattle.std.specs.Prelude.{◌≡◌, ◌+◌, ◌<◌, ◌≤◌, [], ◌∷◌, length, MatchOption};
 ghost use Rattle.stl_text.specs.Words.{lines_of, words_of, is_blank, is_keyword};
-ghost use Rattle.stl_text.specs.Cuts.{line_len, blank_len, word_len};
+ghost use Rattle.stl_text.specs.Inner.Cuts.{line_len, blank_len, word_len};
 
 // How long the first line is, without its line feed.
 fn line_length(text: &[u8]) -> usize
@@ -30,7 +30,7 @@ pub fn split_line(text: &[u8]) -> (&[u8], &[u8])
     }
 }
 
-fn is_blank_byte(b: u8) -> bool
+fn is_blank(b: u8) -> bool
     ensures { result ≡ is_blank b }
 {
     b == b' ' || b == b'\t' || b == b'\r'
@@ -42,7 +42,7 @@ fn blank_length(text: &[u8]) -> usize
     ensures within { result ≤ length text.now }
 {
     let mut i = 0;
-    'bytes: while i < text.len() && is_blank_byte(text[i]) {
+    'bytes: while i < text.len() && is_blank(text[i]) {
         i += 1;
     }
     i
@@ -54,7 +54,7 @@ fn word_length(text: &[u8]) -> usize
     ensures within { result ≤ length text.now }
 {
     let mut i = 0;
-    'bytes: while i < text.len() && !is_blank_byte(text[i]) {
+    'bytes: while i < text.len() && !is_blank(text[i]) {
         i += 1;
     }
     i
@@ -73,7 +73,7 @@ pub fn split_word(text: &[u8]) -> Option<(&[u8], &[u8])>
 }
 
 /// Whether a word is a keyword, in any ASCII case.
-pub fn is_this_keyword(word: &[u8], keyword: &[u8]) -> bool
+pub fn is_keyword(word: &[u8], keyword: &[u8]) -> bool
     ensures { result ≡ is_keyword word.now keyword.now }
 {
     word.eq_ignore_ascii_case(keyword)

@@ -1,5 +1,5 @@
 use Rattle.std.proofs.Common.{◌≡◌, ◌≤◌, ◌+◌, ◌-◌, length, drop}
-use Rattle.stl_text.specs.Cuts.{blank_len}
+use Rattle.stl_text.specs.Inner.Cuts.{blank_len}
 use Rattle.stl_text.proofs.words.blank_length.Given as goal
 
 abbrev pub invariant-bytes : goal.invariant-bytes

@@ -1,5 +1,5 @@
 use Rattle.std.proofs.Common.{◌≡◌, ◌≤◌, ◌+◌, ◌-◌, length, drop}
-use Rattle.stl_text.specs.Cuts.{line_len}
+use Rattle.stl_text.specs.Inner.Cuts.{line_len}
 use Rattle.stl_text.proofs.words.line_length.Given as goal
 
 abbrev pub invariant-bytes : goal.invariant-bytes

@@ -1,7 +1,7 @@
 use Rattle.std.proofs.Common.{◌≡◌, ◌≤◌, ◌+◌, ◌-◌, ◌∷◌, List, ℕ, length, take, drop, arith, add-one}
 use Rattle.std.proofs.lemmas.List.{take_rest}
 use Rattle.stl_text.specs.Words.{lines_of}
-use Rattle.stl_text.specs.Cuts.{line_len}
+use Rattle.stl_text.specs.Inner.Cuts.{line_len}
 use Rattle.stl_text.proofs.CutLemmas.{lines_of-cut, lines_of-last}
 use Rattle.stl_text.proofs.words.split_line.Goals as goal
 

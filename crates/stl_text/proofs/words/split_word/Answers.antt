@@ -1,7 +1,7 @@
 use Rattle.std.proofs.Common.{rules, zero, suc, eqb, Bool, false, ◌≡◌, ◌<◌, ◌-◌, [], ◌∷◌, List, ℕ, length, take, drop, arith, sym, ap, ◌∙◌}
 use Rattle.std.proofs.lemmas.List.{take_rest, nil_from_length}
 use Rattle.stl_text.specs.Words.{words_of}
-use Rattle.stl_text.specs.Cuts.{blank_len, word_len}
+use Rattle.stl_text.specs.Inner.Cuts.{blank_len, word_len}
 use Rattle.stl_text.proofs.CutLemmas.{words_of-blanks, blank_len-drop, words_of-cut}
 use Rattle.stl_text.proofs.words.split_word.Goals as goal
 
