@@ -14,13 +14,13 @@ use Rattle.outside.specs.Store.{Store}
 use Rattle.cli_words.specs.declared.command.Item.{Item}
 use Rattle.cli_words.specs.declared.command.Item.TheVariants as item
 use Rattle.cli_words.specs.Command.{item_names, item_extruders}
-use Rattle.answers.specs.declared.refusal.Refusal.{Refusal}
-use Rattle.answers.specs.declared.refusal.Refusal.TheVariants as refusal
+use Rattle.plate_input.specs.declared.faults.PlateFault.{PlateFault}
+use Rattle.plate_input.specs.declared.faults.PlateFault.TheVariants as fault
 use Rattle.plate_input.specs.declared.files.TheConstants.{MOST_BYTES}
 use Rattle.plate_input.specs.declared.gathered.Gathered.{Gathered}
 use Rattle.plate_input.specs.Reading.{AreFiles, in_front, file_in_front, pairs_of, mesh_bytes}
-use Rattle.plate_input.specs.Answers.{EndsAt, ReadsSome, ReadsAll, ReadsBefore, refused_faults}
-use Rattle.plate_input.specs.Gathering.{IsRead, ReadsOneAtMost, FileRefusal, first_name, with_pairs, with_settings, with_mesh, Took, Refused, outcome, HasGathered, GatherRefusal}
+use Rattle.plate_input.specs.Reads.{EndsAt, ReadsSome, ReadsAll, ReadsBefore, refused_faults, refused_last_failed}
+use Rattle.plate_input.specs.Inner.Gathering.{IsRead, ReadsOneAtMost, FileRefusal, first_name, with_pairs, with_settings, with_mesh, Took, Refused, outcome, HasGathered, GatherRefusal}
 
 abbrev Names : Type 0
 Names = List (List ℕ)
@@ -65,6 +65,7 @@ pub record ReadSoFar (items : List Item) (left : Names) (before now : Store) (fr
   pub files : now.files ≡ before.files
   pub reads : now.reads ≡ counted_by (length front) before.reads
   pub faults : now.faults ≡ before.faults
+  pub last_failed : now.last_failed ≡ before.last_failed
 
 pub record Gathering (items rest : List Item) (before now : Store) (g : Gathered) : Type 0 where
   pub front : Names
@@ -82,7 +83,7 @@ kept_begun items = record {
 }
 
 read_begun : (items : List Item) (s : Store) → ReadSoFar items (item_names items) s s [] []
-read_begun items s = record { names = refl; are = tt; files = refl; reads = refl; faults = refl }
+read_begun items s = record { names = refl; are = tt; files = refl; reads = refl; faults = refl; last_failed = refl }
 
 begun : (items : List Item) (s : Store) → Gathering items items s s (record { pairs = []; not_json = None; extruders = []; meshes = [] })
 begun items s = record { front = []; contents = []; read = read_begun items s; kept = kept_begun items }
@@ -133,8 +134,8 @@ length_more : (names : Names) (name : List ℕ) → length (names ++ name ∷ []
 length_more [] name = refl
 length_more (n ∷ ns) name = ap suc (length_more ns name)
 
-read_more : (items : List Item) (left : Names) (before now next : Store) (front contents : Names) (name bytes : List ℕ) → ReadSoFar items (name ∷ left) before now front contents → IsRead name now next bytes → next.files ≡ now.files → next.faults ≡ now.faults → ReadSoFar items left before next (front ++ name ∷ []) (contents ++ bytes ∷ [])
-read_more items left before now next front contents name bytes r f same quiet =
+read_more : (items : List Item) (left : Names) (before now next : Store) (front contents : Names) (name bytes : List ℕ) → ReadSoFar items (name ∷ left) before now front contents → IsRead name now next bytes → next.files ≡ now.files → next.faults ≡ now.faults → next.last_failed ≡ now.last_failed → ReadSoFar items left before next (front ++ name ∷ []) (contents ++ bytes ∷ [])
+read_more items left before now next front contents name bytes r f same quiet last =
     let more : length (front ++ name ∷ []) ≡ suc (length front) = length_more front name in
     record {
       names = r.names ∙ sym (append_assoc front (name ∷ []) left);
@@ -142,25 +143,26 @@ read_more items left before now next front contents name bytes r f same quiet =
       files = same ∙ r.files;
       reads = f.reads ∙ (ap counted r.reads ∙ ap (λ k. counted_by k before.reads) (sym more));
       faults = quiet ∙ r.faults;
+      last_failed = last ∙ r.last_failed;
     }
 
-pub goes_on : (items rest : List Item) (i : Item) (before now next : Store) (g g' : Gathered) → Gathering items (i ∷ rest) before now g → Took i g g' now next → next.files ≡ now.files → next.faults ≡ now.faults → Gathering items rest before next g'
-goes_on items rest (item.Pair p) before now next g g' h t same quiet = record {
+pub goes_on : (items rest : List Item) (i : Item) (before now next : Store) (g g' : Gathered) → Gathering items (i ∷ rest) before now g → Took i g g' now next → next.files ≡ now.files → next.faults ≡ now.faults → next.last_failed ≡ now.last_failed → Gathering items rest before next g'
+goes_on items rest (item.Pair p) before now next g g' h t same quiet last = record {
   front = h.front;
   contents = h.contents;
   read = subst (λ s. ReadSoFar items (item_names rest) before s h.front h.contents) (sym t.0) h.read;
   kept = subst (KeptSoFar items rest h.contents) (sym t.1) (kept_pair items rest h.contents g p h.kept);
 }
-goes_on items rest (item.Settings name) before now next g g' h t same quiet = record {
+goes_on items rest (item.Settings name) before now next g g' h t same quiet last = record {
   front = h.front ++ name ∷ [];
   contents = h.contents ++ t.bytes ∷ [];
-  read = read_more items (item_names rest) before now next h.front h.contents name t.bytes h.read t.read same quiet;
+  read = read_more items (item_names rest) before now next h.front h.contents name t.bytes h.read t.read same quiet last;
   kept = subst (KeptSoFar items rest (h.contents ++ t.bytes ∷ [])) (sym t.kept) (kept_settings items rest h.contents g name t.bytes (file_pairs t.bytes) refl h.kept);
 }
-goes_on items rest (item.Mesh name e) before now next g g' h t same quiet = record {
+goes_on items rest (item.Mesh name e) before now next g g' h t same quiet last = record {
   front = h.front ++ name ∷ [];
   contents = h.contents ++ t.bytes ∷ [];
-  read = read_more items (item_names rest) before now next h.front h.contents name t.bytes h.read t.read same quiet;
+  read = read_more items (item_names rest) before now next h.front h.contents name t.bytes h.read t.read same quiet last;
   kept = subst (KeptSoFar items rest (h.contents ++ t.bytes ∷ [])) (sym t.kept) (kept_mesh items rest h.contents g name t.bytes e t.read.short h.kept);
 }
 
@@ -194,30 +196,34 @@ some_more items left before now next front contents name r (inr once) =
     let all : length (item_names items) ≡ length (front ++ name ∷ left) = ap length r.names in
     record { count = suc (length front); few = omega (arith, all, length-append front (name ∷ left)); reads = once ∙ ap counted r.reads }
 
-file_refused : (items : List Item) (left : Names) (before now next : Store) (front contents : Names) (name : List ℕ) (r : Refusal) → ReadSoFar items (name ∷ left) before now front contents → FileRefusal r name now next → next.faults ≡ refused_faults r before.faults → GatherRefusal r items before next
-file_refused items left before now next front contents name (refusal.ReadFault n) s h f = record { ends = ends_at items left before now next front contents name n s h.0 h.1.reads; last_failed = h.1.last_failed ∙ ap Some (sym h.0); cause = f }
-file_refused items left before now next front contents name (refusal.TooLong n) s h f = (ends_at items left before now next front contents name n s h.0 h.1.reads, still_too_long before now name n s.files h.0 h.1.too_long)
-file_refused items left before now next front contents name refusal.NoMemory s h f = some_more items left before now next front contents name s h
+file_refused : (items : List Item) (left : Names) (before now next : Store) (front contents : Names) (name : List ℕ) (r : PlateFault) → ReadSoFar items (name ∷ left) before now front contents → FileRefusal r name now next → next.faults ≡ refused_faults r before.faults → GatherRefusal r items before next
+file_refused items left before now next front contents name (fault.ReadFault n) s h f = record { ends = ends_at items left before now next front contents name n s h.0 h.1.reads; last_failed = h.1.last_failed ∙ ap Some (sym h.0); cause = f }
+file_refused items left before now next front contents name (fault.TooLong n) s h f = (ends_at items left before now next front contents name n s h.0 h.1.reads, still_too_long before now name n s.files h.0 h.1.too_long)
+file_refused items left before now next front contents name fault.NoMemory s h f = some_more items left before now next front contents name s h
 file_refused items left before now next front contents name r s h f = absurd h
 
-pair_refused : (items : List Item) (left : Names) (before now next : Store) (front contents : Names) (r : Refusal) → ReadSoFar items left before now front contents → (r ≡ refusal.NoMemory) × (next ≡ now) → GatherRefusal r items before next
+pair_refused : (items : List Item) (left : Names) (before now next : Store) (front contents : Names) (r : PlateFault) → ReadSoFar items left before now front contents → (r ≡ fault.NoMemory) × (next ≡ now) → GatherRefusal r items before next
 pair_refused items left before now next front contents r s h =
     let some : ReadsSome items before next = subst (ReadsSome items before) (sym h.1) (some_read items left before now front contents s) in
     subst (λ x. GatherRefusal x items before next) (sym h.0) some
 
 -- the count of faults is that after the refusal
-pub faults_since : (items rest : List Item) (before now next : Store) (g : Gathered) (r : Refusal) → Gathering items rest before now g → next.faults ≡ refused_faults r now.faults → next.faults ≡ refused_faults r before.faults
+pub faults_since : (items rest : List Item) (before now next : Store) (g : Gathered) (r : PlateFault) → Gathering items rest before now g → next.faults ≡ refused_faults r now.faults → next.faults ≡ refused_faults r before.faults
 faults_since items rest before now next g r h f = f ∙ ap (refused_faults r) h.read.faults
 
-pub refused : (items rest : List Item) (i : Item) (before now next : Store) (g : Gathered) (r : Refusal) → Gathering items (i ∷ rest) before now g → Refused r i now next → next.faults ≡ refused_faults r now.faults → GatherRefusal r items before next
+-- the name of the last failed read is that after the refusal
+pub last_failed_since : (items rest : List Item) (before now next : Store) (g : Gathered) (r : PlateFault) → Gathering items rest before now g → next.last_failed ≡ refused_last_failed r now.last_failed → next.last_failed ≡ refused_last_failed r before.last_failed
+last_failed_since items rest before now next g r h f = f ∙ ap (refused_last_failed r) h.read.last_failed
+
+pub refused : (items rest : List Item) (i : Item) (before now next : Store) (g : Gathered) (r : PlateFault) → Gathering items (i ∷ rest) before now g → Refused r i now next → next.faults ≡ refused_faults r now.faults → GatherRefusal r items before next
 refused items rest (item.Pair p) before now next g r h e f = pair_refused items (item_names rest) before now next h.front h.contents r h.read e
 refused items rest (item.Settings name) before now next g r h e f = file_refused items (item_names rest) before now next h.front h.contents name r h.read e (f ∙ ap (refused_faults r) h.read.faults)
 refused items rest (item.Mesh name n) before now next g r h e f = file_refused items (item_names rest) before now next h.front h.contents name r h.read e (f ∙ ap (refused_faults r) h.read.faults)
 
-pub reads_refused : (items : List Item) (before after : Store) (r : Refusal) → GatherRefusal r items before after → ReadsBefore r items before after
-reads_refused items before after (refusal.ReadFault name) h = h.ends
-reads_refused items before after (refusal.TooLong name) h = h.0
-reads_refused items before after refusal.NoMemory h = h
+pub reads_refused : (items : List Item) (before after : Store) (r : PlateFault) → GatherRefusal r items before after → ReadsBefore r items before after
+reads_refused items before after (fault.ReadFault name) h = h.ends
+reads_refused items before after (fault.TooLong name) h = h.0
+reads_refused items before after fault.NoMemory h = h
 reads_refused items before after r h = absurd h
 
 pub reads_all : (items : List Item) (before now : Store) (g : Gathered) → Gathering items [] before now g → ReadsAll items before now

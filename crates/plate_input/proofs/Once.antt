@@ -8,22 +8,24 @@ use Rattle.settings_core.specs.declared.pairs.Pair.{Pair}
 use Rattle.settings_core.specs.declared.resolved.Settings.{Settings}
 use Rattle.settings_core.specs.declared.resolved.MeshSettings.{MeshSettings}
 use Rattle.settings_core.specs.declared.fault.SettingFault.{SettingFault}
-use Rattle.settings_core.specs.declared.fault.SettingFault.TheVariants as fault
+use Rattle.settings_core.specs.declared.fault.SettingFault.TheVariants as pair_fault
 use Rattle.settings_core.specs.Resolve.{settings_of, fault_of}
 use Rattle.stl_text.specs.declared.faults.StlFault.{StlFault}
 use Rattle.stl_text.specs.declared.faults.StlFault.TheVariants as stl
 use Rattle.stl_text.specs.Mesh.{StlGives}
-use Rattle.cross_section.specs.Place.{placed, placed_with, first_outside}
+use Rattle.mesh_placing.specs.Places.{placed, placed_with}
+use Rattle.mesh_placing.specs.Volume.{first_outside}
 use Rattle.outside.specs.Files.{IsFile, IsTooLong, file_of}
 use Rattle.cli_words.specs.declared.command.Item.{Item}
 use Rattle.cli_words.specs.Command.{item_names, item_extruders}
-use Rattle.answers.specs.declared.refusal.Refusal.{Refusal}
-use Rattle.answers.specs.declared.refusal.Refusal.TheVariants as refusal
+use Rattle.plate_input.specs.declared.faults.PlateFault.{PlateFault}
+use Rattle.plate_input.specs.declared.faults.PlateFault.TheVariants as fault
 use Rattle.plate_input.specs.declared.files.TheConstants.{MOST_BYTES}
 use Rattle.plate_input.specs.declared.plates.Plate.{Plate}
-use Rattle.plate_input.specs.Meshes.{MeshGives, MeshesGive}
+use Rattle.plate_input.specs.Inner.Stages.{MeshGives}
+use Rattle.plate_input.specs.Meshes.{MeshesGive}
 use Rattle.plate_input.specs.Reading.{AreFiles, FirstTooLong, FirstNotJson, pairs_of, mesh_bytes}
-use Rattle.plate_input.specs.Plate.{IsPlate, HasBadMesh, SettledGives, GivesSettled, PlateGives}
+use Rattle.plate_input.specs.Plate.{IsPlate, HasBadMesh, MakesPlate, GivesSettled, PlateGives}
 
 abbrev Names : Type 0
 Names = List (List ℕ)
@@ -32,13 +34,13 @@ abbrev Files : Type 0
 Files = List (List ℕ × List ℕ)
 
 abbrev Plates : Type 0
-Plates = Result Plate Refusal
+Plates = Result Plate PlateFault
 
 abbrev Rows : Type 0
-Rows = Result (List (List Tri)) Refusal
+Rows = Result (List (List Tri)) PlateFault
 
 abbrev Tris : Type 0
-Tris = Result (List Tri) Refusal
+Tris = Result (List Tri) PlateFault
 
 abbrev Reading : Type 0
 Reading = Result (List Tri) StlFault
@@ -102,15 +104,15 @@ some_outside s m (t ∷ ts) n e = omega arith
 -- what a mesh's triangles in place give, by the first that is outside
 abbrev placed_or : ℕ → Option ℕ → List Tri → Tris
 placed_or m None ts = Ok ts
-placed_or m (Some n) ts = Err (refusal.OutsideVolume m n)
+placed_or m (Some n) ts = Err (fault.OutsideVolume m n)
 
 -- what the reading of a mesh's file gives
 abbrev answer_of : Settings → ℕ → Reading → Tris
-answer_of s m (Ok []) = Err (refusal.NoTriangles m)
+answer_of s m (Ok []) = Err (fault.NoTriangles m)
 answer_of s m (Ok (t ∷ ts)) = placed_or m (first_outside s (placed s m (t ∷ ts))) (placed s m (t ∷ ts))
-answer_of s m (Err (stl.BadLine n)) = Err (refusal.BadStl m n)
-answer_of s m (Err (stl.TooManyTriangles n)) = Err (refusal.TooManyTriangles m n)
-answer_of s m (Err stl.NoMemory) = Err refusal.NoMemory
+answer_of s m (Err (stl.BadLine n)) = Err (fault.BadStl m n)
+answer_of s m (Err (stl.TooManyTriangles n)) = Err (fault.TooManyTriangles m n)
+answer_of s m (Err stl.NoMemory) = Err fault.NoMemory
 
 -- an answer that a reading of the bytes gives
 pub record IsOf (s : Settings) (m : ℕ) (bytes : List ℕ) (a : Tris) : Type 0 where
@@ -124,50 +126,50 @@ placed_by s m (t ∷ ts) o some e = ap (λ x. placed_or m x (placed s m (t ∷ t
 
 is_of : (s : Settings) (m : ℕ) (bytes : List ℕ) (a : Tris) → MeshGives s m bytes a → IsOf s m bytes a
 is_of s m bytes (Ok ts) h = record { reading = Ok h.read; gives = h.mesh; is = ap Ok h.in_place ∙ placed_by s m h.read None h.some h.inside }
-is_of s m bytes (Err (refusal.BadStl i n)) h = record { reading = Err (stl.BadLine n); gives = h.1; is = ap (λ k. Err (refusal.BadStl k n)) h.0 }
-is_of s m bytes (Err (refusal.TooManyTriangles i n)) h = record { reading = Err (stl.TooManyTriangles n); gives = h.1; is = ap (λ k. Err (refusal.TooManyTriangles k n)) h.0 }
-is_of s m bytes (Err (refusal.NoTriangles i)) h = record { reading = Ok []; gives = h.1; is = ap (λ k. Err (refusal.NoTriangles k)) h.0 }
-is_of s m bytes (Err (refusal.OutsideVolume i n)) h =
-    record { reading = Ok h.1.read; gives = h.1.mesh; is = ap (λ k. Err (refusal.OutsideVolume k n)) h.0 ∙ placed_by s m h.1.read (Some n) (some_outside s m h.1.read n h.1.outside) h.1.outside }
+is_of s m bytes (Err (fault.BadStl i n)) h = record { reading = Err (stl.BadLine n); gives = h.1; is = ap (λ k. Err (fault.BadStl k n)) h.0 }
+is_of s m bytes (Err (fault.TooManyTriangles i n)) h = record { reading = Err (stl.TooManyTriangles n); gives = h.1; is = ap (λ k. Err (fault.TooManyTriangles k n)) h.0 }
+is_of s m bytes (Err (fault.NoTriangles i)) h = record { reading = Ok []; gives = h.1; is = ap (λ k. Err (fault.NoTriangles k)) h.0 }
+is_of s m bytes (Err (fault.OutsideVolume i n)) h =
+    record { reading = Ok h.1.read; gives = h.1.mesh; is = ap (λ k. Err (fault.OutsideVolume k n)) h.0 ∙ placed_by s m h.1.read (Some n) (some_outside s m h.1.read n h.1.outside) h.1.outside }
 is_of s m bytes (Err r) h = absurd h
 
 -- what a fault of pairs makes of an answer
 abbrev FaultSays : List Pair → SettingFault → Plates → Type 0
-FaultSays pairs (fault.BadValue p) a = (pair : Pair) × ((slice_get pairs p ≡ Some pair) × (a ≡ Err (refusal.BadValue pair.scope pair.key)))
-FaultSays pairs (fault.OutOfRange p) a = (pair : Pair) × ((slice_get pairs p ≡ Some pair) × (a ≡ Err (refusal.OutOfRange pair.scope pair.key)))
-FaultSays pairs (fault.UnknownExtruder m) a = a ≡ Err (refusal.UnknownExtruder m)
-FaultSays pairs fault.NoMemory a = ⊥
+FaultSays pairs (pair_fault.BadValue p) a = (pair : Pair) × ((slice_get pairs p ≡ Some pair) × (a ≡ Err (fault.BadValue pair.scope pair.key)))
+FaultSays pairs (pair_fault.OutOfRange p) a = (pair : Pair) × ((slice_get pairs p ≡ Some pair) × (a ≡ Err (fault.OutOfRange pair.scope pair.key)))
+FaultSays pairs (pair_fault.UnknownExtruder m) a = a ≡ Err (fault.UnknownExtruder m)
+FaultSays pairs pair_fault.NoMemory a = ⊥
 
 same_pair : (o : Option Pair) (p q : Pair) → o ≡ Some p → o ≡ Some q → p ≡ q
 same_pair o p q e f = cc
 
 one_fault : (pairs : List Pair) (f : SettingFault) (a b : Plates) → FaultSays pairs f a → FaultSays pairs f b → a ≡ b
-one_fault pairs (fault.BadValue p) a b s t = s.1.1 ∙ (ap (λ (x : Pair). Err (refusal.BadValue x.scope x.key)) (same_pair (slice_get pairs p) s.0 t.0 s.1.0 t.1.0) ∙ sym t.1.1)
-one_fault pairs (fault.OutOfRange p) a b s t = s.1.1 ∙ (ap (λ (x : Pair). Err (refusal.OutOfRange x.scope x.key)) (same_pair (slice_get pairs p) s.0 t.0 s.1.0 t.1.0) ∙ sym t.1.1)
-one_fault pairs (fault.UnknownExtruder m) a b s t = s ∙ sym t
-one_fault pairs fault.NoMemory a b s t = absurd s
+one_fault pairs (pair_fault.BadValue p) a b s t = s.1.1 ∙ (ap (λ (x : Pair). Err (fault.BadValue x.scope x.key)) (same_pair (slice_get pairs p) s.0 t.0 s.1.0 t.1.0) ∙ sym t.1.1)
+one_fault pairs (pair_fault.OutOfRange p) a b s t = s.1.1 ∙ (ap (λ (x : Pair). Err (fault.OutOfRange x.scope x.key)) (same_pair (slice_get pairs p) s.0 t.0 s.1.0 t.1.0) ∙ sym t.1.1)
+one_fault pairs (pair_fault.UnknownExtruder m) a b s t = s ∙ sym t
+one_fault pairs pair_fault.NoMemory a b s t = absurd s
 
 -- the stages that may decide
 pub data Settled : List Pair → List ℕ → Names → Plates → Type 0 where
   plate : {pairs : List Pair} {es : List ℕ} {files : Names} {a : Plates} (p : Plate) → a ≡ Ok p → IsPlate pairs es files p → Settled pairs es files a
   setting : {pairs : List Pair} {es : List ℕ} {files : Names} {a : Plates} (f : SettingFault) → fault_of pairs es ≡ Some f → FaultSays pairs f a → Settled pairs es files a
-  mesh : {pairs : List Pair} {es : List ℕ} {files : Names} {a : Plates} (r : Refusal) → a ≡ Err r → HasBadMesh pairs es files r → Settled pairs es files a
+  mesh : {pairs : List Pair} {es : List ℕ} {files : Names} {a : Plates} (r : PlateFault) → a ≡ Err r → HasBadMesh pairs es files r → Settled pairs es files a
 
-bad_value_same : (p : Pair) (scope : Scope) (key : List ℕ) → scope ≡ p.scope → key ≡ p.key → ◌≡◌ {A = Plates} (Err (refusal.BadValue scope key)) (Err (refusal.BadValue p.scope p.key))
+bad_value_same : (p : Pair) (scope : Scope) (key : List ℕ) → scope ≡ p.scope → key ≡ p.key → ◌≡◌ {A = Plates} (Err (fault.BadValue scope key)) (Err (fault.BadValue p.scope p.key))
 bad_value_same p scope key e f = rw (e, f) refl
 
-out_of_range_same : (p : Pair) (scope : Scope) (key : List ℕ) → scope ≡ p.scope → key ≡ p.key → ◌≡◌ {A = Plates} (Err (refusal.OutOfRange scope key)) (Err (refusal.OutOfRange p.scope p.key))
+out_of_range_same : (p : Pair) (scope : Scope) (key : List ℕ) → scope ≡ p.scope → key ≡ p.key → ◌≡◌ {A = Plates} (Err (fault.OutOfRange scope key)) (Err (fault.OutOfRange p.scope p.key))
 out_of_range_same p scope key e f = rw (e, f) refl
 
-settled : (pairs : List Pair) (es : List ℕ) (files : Names) (a : Plates) → SettledGives pairs es files a → Settled pairs es files a
+settled : (pairs : List Pair) (es : List ℕ) (files : Names) (a : Plates) → MakesPlate pairs es files a → Settled pairs es files a
 settled pairs es files (Ok p) h = plate p refl h
-settled pairs es files (Err (refusal.BadValue scope key)) h = setting (fault.BadValue h.place) h.at_fault (h.pair, (h.stands, bad_value_same h.pair scope key h.its_scope h.its_key))
-settled pairs es files (Err (refusal.OutOfRange scope key)) h = setting (fault.OutOfRange h.place) h.at_fault (h.pair, (h.stands, out_of_range_same h.pair scope key h.its_scope h.its_key))
-settled pairs es files (Err (refusal.UnknownExtruder m)) h = setting (fault.UnknownExtruder m) h refl
-settled pairs es files (Err (refusal.BadStl m n)) h = mesh (refusal.BadStl m n) refl h
-settled pairs es files (Err (refusal.NoTriangles m)) h = mesh (refusal.NoTriangles m) refl h
-settled pairs es files (Err (refusal.TooManyTriangles m n)) h = mesh (refusal.TooManyTriangles m n) refl h
-settled pairs es files (Err (refusal.OutsideVolume m n)) h = mesh (refusal.OutsideVolume m n) refl h
+settled pairs es files (Err (fault.BadValue scope key)) h = setting (pair_fault.BadValue h.index) h.at_fault (h.pair, (h.stands, bad_value_same h.pair scope key h.its_scope h.its_key))
+settled pairs es files (Err (fault.OutOfRange scope key)) h = setting (pair_fault.OutOfRange h.index) h.at_fault (h.pair, (h.stands, out_of_range_same h.pair scope key h.its_scope h.its_key))
+settled pairs es files (Err (fault.UnknownExtruder m)) h = setting (pair_fault.UnknownExtruder m) h refl
+settled pairs es files (Err (fault.BadStl m n)) h = mesh (fault.BadStl m n) refl h
+settled pairs es files (Err (fault.NoTriangles m)) h = mesh (fault.NoTriangles m) refl h
+settled pairs es files (Err (fault.TooManyTriangles m n)) h = mesh (fault.TooManyTriangles m n) refl h
+settled pairs es files (Err (fault.OutsideVolume m n)) h = mesh (fault.OutsideVolume m n) refl h
 settled pairs es files (Err r) h = absurd h
 
 none_some : (o : Option SettingFault) (f : SettingFault) → o ≡ None → o ≡ Some f → ⊥
@@ -179,16 +181,16 @@ same_fault o f g e h = cc
 same_plate : (p : Plate) (s : Settings) (ms : List (List Tri)) → p.settings ≡ s → p.meshes ≡ ms → p ≡ record { settings = s; meshes = ms }
 same_plate p s ms e f = ap (λ (x : Settings). record { settings = x; meshes = p.meshes }) e ∙ ap (λ (y : List (List Tri)). record { settings = s; meshes = y }) f
 
-same_refusal : (q r : Refusal) → ◌≡◌ {A = Rows} (Err q) (Err r) → ◌≡◌ {A = Plates} (Err q) (Err r)
+same_refusal : (q r : PlateFault) → ◌≡◌ {A = Rows} (Err q) (Err r) → ◌≡◌ {A = Plates} (Err q) (Err r)
 same_refusal q r e = let same : q ≡ r = cc in ap Err same
 
-mesh_refusal : (q r : Refusal) → ◌≡◌ {A = Tris} (Err q) (Err r) → ◌≡◌ {A = Rows} (Err q) (Err r)
+mesh_refusal : (q r : PlateFault) → ◌≡◌ {A = Tris} (Err q) (Err r) → ◌≡◌ {A = Rows} (Err q) (Err r)
 mesh_refusal q r e = let same : q ≡ r = cc in ap Err same
 
-not_tris : (ts : List Tri) (q : Refusal) → ◌≡◌ {A = Tris} (Ok ts) (Err q) → ⊥
+not_tris : (ts : List Tri) (q : PlateFault) → ◌≡◌ {A = Tris} (Ok ts) (Err q) → ⊥
 not_tris ts q e = cc
 
-not_rows : (ms : List (List Tri)) (q : Refusal) → ◌≡◌ {A = Rows} (Ok ms) (Err q) → ⊥
+not_rows : (ms : List (List Tri)) (q : PlateFault) → ◌≡◌ {A = Rows} (Ok ms) (Err q) → ⊥
 not_rows ms q e = cc
 
 same_rows : (ms ns : List (List Tri)) → ◌≡◌ {A = Rows} (Ok ms) (Ok ns) → ms ≡ ns
@@ -199,13 +201,13 @@ more_rows ts us ms ns e f = cc
 
 -- the files decide first, then the settings files, then the rest
 pub data Defined : List Item → Files → Plates → Type 0 where
-  too_long : {items : List Item} {files : Files} {a : Plates} (name : List ℕ) → a ≡ Err (refusal.TooLong name) → FirstTooLong items (Some files) name → Defined items files a
-  not_json : {items : List Item} {files : Files} {a : Plates} (name : List ℕ) → a ≡ Err (refusal.NotJson name) → FirstNotJson items (Some files) name → Defined items files a
+  too_long : {items : List Item} {files : Files} {a : Plates} (name : List ℕ) → a ≡ Err (fault.TooLong name) → FirstTooLong items (Some files) name → Defined items files a
+  not_json : {items : List Item} {files : Files} {a : Plates} (name : List ℕ) → a ≡ Err (fault.NotJson name) → FirstNotJson items (Some files) name → Defined items files a
   given : {items : List Item} {files : Files} {a : Plates} → GivesSettled items (Some files) a → Defined items files a
 
 defined : (items : List Item) (files : Files) (a : Plates) → PlateGives items (Some files) a → Defined items files a
-defined items files (Err (refusal.TooLong name)) h = too_long name refl h
-defined items files (Err (refusal.NotJson name)) h = not_json name refl h
+defined items files (Err (fault.TooLong name)) h = too_long name refl h
+defined items files (Err (fault.NotJson name)) h = not_json name refl h
 defined items files a h = given h
 
 same_pairs : (r : Result (List Pair) (List ℕ)) (ps qs : List Pair) → r ≡ Ok ps → r ≡ Ok qs → ps ≡ qs
@@ -275,17 +277,17 @@ module _ (one : (bytes : List ℕ) (a b : Reading) → StlGives bytes a → StlG
       let same : h.read.contents ≡ g.read.contents = same_files files (item_names items) h.read.contents g.read.contents h.read.are g.read.are in
       let pairs : h.read.pairs ≡ g.read.pairs = same_pairs (pairs_of items g.read.contents) h.read.pairs g.read.pairs (ap (pairs_of items) (sym same) ∙ h.read.given) g.read.given in
       let bytes : mesh_bytes items h.read.contents ≡ mesh_bytes items g.read.contents = ap (mesh_bytes items) same in
-      let t : SettledGives g.read.pairs es (mesh_bytes items h.read.contents) b = subst (λ ps. SettledGives ps es (mesh_bytes items h.read.contents) b) pairs h.settled in
-      let u : SettledGives g.read.pairs es (mesh_bytes items g.read.contents) b = subst (λ ms. SettledGives g.read.pairs es ms b) bytes t in
+      let t : MakesPlate g.read.pairs es (mesh_bytes items h.read.contents) b = subst (λ ps. MakesPlate ps es (mesh_bytes items h.read.contents) b) pairs h.settled in
+      let u : MakesPlate g.read.pairs es (mesh_bytes items g.read.contents) b = subst (λ ms. MakesPlate g.read.pairs es ms b) bytes t in
       let ms = mesh_bytes items g.read.contents in
       one_settled g.read.pairs es ms a b (settled g.read.pairs es ms a g.settled) (settled g.read.pairs es ms b u)
 
   one_defined : (items : List Item) (files : Files) (a b : Plates) → Defined items files a → Defined items files b → a ≡ b
-  one_defined items files a b (too_long n i g) (too_long k j h) = i ∙ (ap (λ x. Err (refusal.TooLong x)) (one_too_long items files n k g h) ∙ sym j)
+  one_defined items files a b (too_long n i g) (too_long k j h) = i ∙ (ap (λ x. Err (fault.TooLong x)) (one_too_long items files n k g h) ∙ sym j)
   one_defined items files a b (too_long n i g) (not_json k j h) = absurd (all_there items files h.contents n h.are g)
   one_defined items files a b (too_long n i g) (given h) = absurd (all_there items files h.read.contents n h.read.are g)
   one_defined items files a b (not_json n i g) (too_long k j h) = absurd (all_there items files g.contents k g.are h)
-  one_defined items files a b (not_json n i g) (not_json k j h) = i ∙ (ap (λ x. Err (refusal.NotJson x)) (one_not_json items files n k g h) ∙ sym j)
+  one_defined items files a b (not_json n i g) (not_json k j h) = i ∙ (ap (λ x. Err (fault.NotJson x)) (one_not_json items files n k g h) ∙ sym j)
   one_defined items files a b (not_json n i g) (given h) = absurd (all_json items files n b g h)
   one_defined items files a b (given g) (too_long k j h) = absurd (all_there items files g.read.contents k g.read.are h)
   one_defined items files a b (given g) (not_json k j h) = absurd (all_json items files k a h g)
@@ -293,3 +295,6 @@ module _ (one : (bytes : List ℕ) (a b : Reading) → StlGives bytes a → StlG
 
   pub one_plate : (items : List Item) (files : Files) (a b : Plates) → PlateGives items (Some files) a → PlateGives items (Some files) b → a ≡ b
   one_plate items files a b g h = one_defined items files a b (defined items files a g) (defined items files b h)
+
+  pub one_made : (pairs : List Pair) (es : List ℕ) (files : Names) (a b : Plates) → MakesPlate pairs es files a → MakesPlate pairs es files b → a ≡ b
+  one_made pairs es files a b g h = one_settled pairs es files a b (settled pairs es files a g) (settled pairs es files b h)

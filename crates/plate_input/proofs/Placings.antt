@@ -3,27 +3,29 @@ use Rattle.std.proofs.Common.{ℕ, ◌≡◌, List, ◌++◌, length, take, drop
 use Rattle.std.proofs.Math.Seq.{take-append_seam}
 use Rattle.slice_base.specs.declared.points.Tri.{Tri}
 use Rattle.settings_core.specs.declared.resolved.Settings.{Settings}
-use Rattle.cross_section.specs.Place.{placed, first_outside}
-use Rattle.answers.specs.declared.refusal.Refusal.{Refusal}
-use Rattle.answers.specs.declared.refusal.Refusal.TheVariants as refusal
-use Rattle.plate_input.specs.Meshes.{ReadRefusal, TrianglesGive, MeshRefusal, MeshGives}
-use Rattle.plate_input.specs.Answers.{Answers}
+use Rattle.mesh_placing.specs.Places.{placed}
+use Rattle.mesh_placing.specs.Volume.{first_outside}
+use Rattle.plate_input.specs.declared.faults.PlateFault.{PlateFault}
+use Rattle.plate_input.specs.declared.faults.PlateFault.TheVariants as fault
+use Rattle.plate_input.specs.Inner.Stages.{ReadRefusal, TrianglesGive, MeshGives}
+use Rattle.plate_input.specs.Meshes.{MeshRefusal}
+use Rattle.plate_input.specs.Plate.{UnlessNoMemory}
 
-refused_mesh : (s : Settings) (m : ℕ) (bytes : List ℕ) (r : Refusal) → ReadRefusal m bytes r → MeshRefusal s m bytes r
-refused_mesh s m bytes (refusal.BadStl i line) h = h
-refused_mesh s m bytes (refusal.TooManyTriangles i n) h = h
-refused_mesh s m bytes (refusal.NoTriangles i) h = h
+refused_mesh : (s : Settings) (m : ℕ) (bytes : List ℕ) (r : PlateFault) → ReadRefusal m bytes r → MeshRefusal s m bytes r
+refused_mesh s m bytes (fault.BadStl i line) h = h
+refused_mesh s m bytes (fault.TooManyTriangles i n) h = h
+refused_mesh s m bytes (fault.NoTriangles i) h = h
 refused_mesh s m bytes r h = absurd h
 
-pub mesh_unread : (s : Settings) (m : ℕ) (bytes : List ℕ) (q : Refusal) → Answers (TrianglesGive m bytes) (Err q) → Answers (MeshGives s m bytes) (Err q)
+pub mesh_unread : (s : Settings) (m : ℕ) (bytes : List ℕ) (q : PlateFault) → UnlessNoMemory (TrianglesGive m bytes) (Err q) → UnlessNoMemory (MeshGives s m bytes) (Err q)
 mesh_unread s m bytes q (inl e) = inl e
 mesh_unread s m bytes q (inr h) = inr (refused_mesh s m bytes q h)
 
-pub mesh_outside : (s : Settings) (m n : ℕ) (bytes : List ℕ) (ts : List Tri) → Answers (TrianglesGive m bytes) (Ok ts) → first_outside s (placed s m ts) ≡ Some n → Answers (MeshGives s m bytes) (Err (refusal.OutsideVolume m n))
+pub mesh_outside : (s : Settings) (m n : ℕ) (bytes : List ℕ) (ts : List Tri) → UnlessNoMemory (TrianglesGive m bytes) (Ok ts) → first_outside s (placed s m ts) ≡ Some n → UnlessNoMemory (MeshGives s m bytes) (Err (fault.OutsideVolume m n))
 mesh_outside s m n bytes ts (inl e) out = absurd (cc)
 mesh_outside s m n bytes ts (inr h) out = inr (refl, record { read = ts; mesh = h.0; outside = out })
 
-pub mesh_placed : (s : Settings) (m : ℕ) (bytes : List ℕ) (ts us : List Tri) → Answers (TrianglesGive m bytes) (Ok ts) → first_outside s (placed s m ts) ≡ None → us ≡ placed s m ts → Answers (MeshGives s m bytes) (Ok us)
+pub mesh_placed : (s : Settings) (m : ℕ) (bytes : List ℕ) (ts us : List Tri) → UnlessNoMemory (TrianglesGive m bytes) (Ok ts) → first_outside s (placed s m ts) ≡ None → us ≡ placed s m ts → UnlessNoMemory (MeshGives s m bytes) (Ok us)
 mesh_placed s m bytes ts us (inl e) none is = absurd (cc)
 mesh_placed s m bytes ts us (inr h) none is = inr (record { read = ts; mesh = h.0; some = h.1; inside = none; in_place = is })
 

@@ -4,63 +4,63 @@ use Rattle.slice_base.specs.declared.points.Tri.{Tri}
 use Rattle.settings_core.specs.declared.pairs.Pair.{Pair}
 use Rattle.settings_core.specs.declared.resolved.Settings.{Settings}
 use Rattle.settings_core.specs.Resolve.{settings_of, fault_of}
-use Rattle.answers.specs.declared.refusal.Refusal.{Refusal}
-use Rattle.answers.specs.declared.refusal.Refusal.TheVariants as refusal
+use Rattle.plate_input.specs.declared.faults.PlateFault.{PlateFault}
+use Rattle.plate_input.specs.declared.faults.PlateFault.TheVariants as fault
 use Rattle.plate_input.specs.declared.plates.Plate.{Plate}
 use Rattle.plate_input.specs.Meshes.{MeshRefusal, MeshesGive}
-use Rattle.plate_input.specs.Plate.{HasBadMesh, SettingRefusal, SettledGives}
-use Rattle.plate_input.specs.Answers.{Answers}
+use Rattle.plate_input.specs.Plate.{HasBadMesh, MakesPlate, UnlessNoMemory}
+use Rattle.plate_input.specs.Inner.Stages.{SettingRefusal}
 
 abbrev Plates : Type 0
-Plates = Result Plate Refusal
+Plates = Result Plate PlateFault
 
 abbrev Rows : Type 0
-Rows = Result (List (List Tri)) Refusal
+Rows = Result (List (List Tri)) PlateFault
 
-pub by_setting : (pairs : List Pair) (es : List ℕ) (files : List (List ℕ)) (r : Refusal) → SettingRefusal r pairs es → Answers (SettledGives pairs es files) (Err r)
-by_setting pairs es files (refusal.BadValue scope key) h = inr h
-by_setting pairs es files (refusal.OutOfRange scope key) h = inr h
-by_setting pairs es files (refusal.UnknownExtruder m) h = inr h
-by_setting pairs es files refusal.NoMemory h = inl refl
+pub by_setting : (pairs : List Pair) (es : List ℕ) (files : List (List ℕ)) (r : PlateFault) → SettingRefusal r pairs es → UnlessNoMemory (MakesPlate pairs es files) (Err r)
+by_setting pairs es files (fault.BadValue scope key) h = inr h
+by_setting pairs es files (fault.OutOfRange scope key) h = inr h
+by_setting pairs es files (fault.UnknownExtruder m) h = inr h
+by_setting pairs es files fault.NoMemory h = inl refl
 by_setting pairs es files r h = absurd h
 
 -- a mesh is refused by one of four
-abbrev pub IsOfMesh : Refusal → Type 0
-IsOfMesh (refusal.BadStl m n) = Unit {0}
-IsOfMesh (refusal.NoTriangles m) = Unit {0}
-IsOfMesh (refusal.TooManyTriangles m n) = Unit {0}
-IsOfMesh (refusal.OutsideVolume m n) = Unit {0}
+abbrev pub IsOfMesh : PlateFault → Type 0
+IsOfMesh (fault.BadStl m n) = Unit {0}
+IsOfMesh (fault.NoTriangles m) = Unit {0}
+IsOfMesh (fault.TooManyTriangles m n) = Unit {0}
+IsOfMesh (fault.OutsideVolume m n) = Unit {0}
 IsOfMesh r = ⊥
 
-of_mesh : (s : Settings) (m : ℕ) (bytes : List ℕ) (r : Refusal) → MeshRefusal s m bytes r → IsOfMesh r
-of_mesh s m bytes (refusal.BadStl i n) h = tt
-of_mesh s m bytes (refusal.NoTriangles i) h = tt
-of_mesh s m bytes (refusal.TooManyTriangles i n) h = tt
-of_mesh s m bytes (refusal.OutsideVolume i n) h = tt
+of_mesh : (s : Settings) (m : ℕ) (bytes : List ℕ) (r : PlateFault) → MeshRefusal s m bytes r → IsOfMesh r
+of_mesh s m bytes (fault.BadStl i n) h = tt
+of_mesh s m bytes (fault.NoTriangles i) h = tt
+of_mesh s m bytes (fault.TooManyTriangles i n) h = tt
+of_mesh s m bytes (fault.OutsideVolume i n) h = tt
 of_mesh s m bytes r h = absurd h
 
-of_meshes : (s : Settings) (m : ℕ) (files : List (List ℕ)) (r : Refusal) → MeshesGive s m files (Err r) → IsOfMesh r
+of_meshes : (s : Settings) (m : ℕ) (files : List (List ℕ)) (r : PlateFault) → MeshesGive s m files (Err r) → IsOfMesh r
 of_meshes s m [] r h = absurd h
 of_meshes s m (bytes ∷ files) r (inl h) = of_mesh s m bytes r h
 of_meshes s m (bytes ∷ files) r (inr h) = of_meshes s (m + 1) files r h.1
 
-bad_mesh : (pairs : List Pair) (es : List ℕ) (files : List (List ℕ)) (r : Refusal) → IsOfMesh r → HasBadMesh pairs es files r → SettledGives pairs es files (Err r)
-bad_mesh pairs es files (refusal.BadStl m n) k h = h
-bad_mesh pairs es files (refusal.NoTriangles m) k h = h
-bad_mesh pairs es files (refusal.TooManyTriangles m n) k h = h
-bad_mesh pairs es files (refusal.OutsideVolume m n) k h = h
+bad_mesh : (pairs : List Pair) (es : List ℕ) (files : List (List ℕ)) (r : PlateFault) → IsOfMesh r → HasBadMesh pairs es files r → MakesPlate pairs es files (Err r)
+bad_mesh pairs es files (fault.BadStl m n) k h = h
+bad_mesh pairs es files (fault.NoTriangles m) k h = h
+bad_mesh pairs es files (fault.TooManyTriangles m n) k h = h
+bad_mesh pairs es files (fault.OutsideVolume m n) k h = h
 bad_mesh pairs es files r k h = absurd k
 
-short_too : (q : Refusal) → ◌≡◌ {A = Rows} (Err q) (Err refusal.NoMemory) → ◌≡◌ {A = Plates} (Err q) (Err refusal.NoMemory)
-short_too q e = let same : q ≡ refusal.NoMemory = cc in ap Err same
+short_too : (q : PlateFault) → ◌≡◌ {A = Rows} (Err q) (Err fault.NoMemory) → ◌≡◌ {A = Plates} (Err q) (Err fault.NoMemory)
+short_too q e = let same : q ≡ fault.NoMemory = cc in ap Err same
 
-refused_mesh : (pairs : List Pair) (es : List ℕ) (files : List (List ℕ)) (q : Refusal) → fault_of pairs es ≡ None → Answers (MeshesGive (settings_of pairs es) 0 files) (Err q) → Answers (SettledGives pairs es files) (Err q)
+refused_mesh : (pairs : List Pair) (es : List ℕ) (files : List (List ℕ)) (q : PlateFault) → fault_of pairs es ≡ None → UnlessNoMemory (MeshesGive (settings_of pairs es) 0 files) (Err q) → UnlessNoMemory (MakesPlate pairs es files) (Err q)
 refused_mesh pairs es files q n (inl e) = inl (short_too q e)
 refused_mesh pairs es files q n (inr h) = inr (bad_mesh pairs es files q (of_meshes (settings_of pairs es) 0 files q h) (record { faultless = n; refused = h }))
 
-pub by_mesh : (pairs : List Pair) (es : List ℕ) (files : List (List ℕ)) (s : Settings) (q : Refusal) → fault_of pairs es ≡ None → s ≡ settings_of pairs es → Answers (MeshesGive s 0 files) (Err q) → Answers (SettledGives pairs es files) (Err q)
-by_mesh pairs es files s q n e a = refused_mesh pairs es files q n (subst (λ (x : Settings). Answers (MeshesGive x 0 files) (Err q)) e a)
+pub by_mesh : (pairs : List Pair) (es : List ℕ) (files : List (List ℕ)) (s : Settings) (q : PlateFault) → fault_of pairs es ≡ None → s ≡ settings_of pairs es → UnlessNoMemory (MeshesGive s 0 files) (Err q) → UnlessNoMemory (MakesPlate pairs es files) (Err q)
+by_mesh pairs es files s q n e a = refused_mesh pairs es files q n (subst (λ (x : Settings). UnlessNoMemory (MeshesGive x 0 files) (Err q)) e a)
 
-pub by_plate : (pairs : List Pair) (es : List ℕ) (files : List (List ℕ)) (s : Settings) (ms : List (List Tri)) → fault_of pairs es ≡ None → s ≡ settings_of pairs es → Answers (MeshesGive s 0 files) (Ok ms) → Answers (SettledGives pairs es files) (Ok (record { settings = s; meshes = ms }))
+pub by_plate : (pairs : List Pair) (es : List ℕ) (files : List (List ℕ)) (s : Settings) (ms : List (List Tri)) → fault_of pairs es ≡ None → s ≡ settings_of pairs es → UnlessNoMemory (MeshesGive s 0 files) (Ok ms) → UnlessNoMemory (MakesPlate pairs es files) (Ok (record { settings = s; meshes = ms }))
 by_plate pairs es files s ms n e (inl short) = absurd (cc)
 by_plate pairs es files s ms n e (inr h) = inr (record { faultless = n; settings = e; meshes = h })

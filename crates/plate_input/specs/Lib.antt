@@ -1,5 +1,7 @@
+pub mod Values
 pub mod Reading
-pub mod Gathering
 pub mod Meshes
 pub mod Plate
-pub mod Answers
+pub mod Reads
+pub mod Refusals
+pub mod Inner

@@ -1,5 +1,6 @@
 -- The files that items name, and the pairs and meshes that they give.
 use Rattle.std.specs.Prelude.{ℕ, ◌≡◌, ◌≤◌, List, [], ◌∷◌, ◌++◌, length, Option, Some, None, Result, Ok, Err}
+use Rattle.slice_base.specs.Limits.{max_file_bytes}
 use Rattle.settings_core.specs.declared.pairs.Pair.{Pair}
 use Rattle.settings_core.specs.File.{file_pairs}
 use Rattle.outside.specs.Files.{IsFile, IsTooLong}
@@ -12,7 +13,7 @@ abbrev pub AreFiles : Option (List (List ℕ × List ℕ)) → List (List ℕ) �
 AreFiles files [] [] = Unit {0}
 AreFiles files [] (bytes ∷ contents) = ⊥
 AreFiles files (name ∷ names) [] = ⊥
-AreFiles files (name ∷ names) (bytes ∷ contents) = IsFile files name bytes × (length bytes ≤ 268435456) × AreFiles files names contents
+AreFiles files (name ∷ names) (bytes ∷ contents) = IsFile files name bytes × (length bytes ≤ max_file_bytes) × AreFiles files names contents
 
 -- the first file at fault, of those that the items name, is too long
 pub record FirstTooLong (items : List Item) (files : Option (List (List ℕ × List ℕ))) (name : List ℕ) : Type 0 where
@@ -21,7 +22,7 @@ pub record FirstTooLong (items : List Item) (files : Option (List (List ℕ × L
   pub contents : List (List ℕ)
   pub names : item_names items ≡ front ++ name ∷ rest
   pub are : AreFiles files front contents
-  pub too_long : IsTooLong files name 268435456
+  pub too_long : IsTooLong files name max_file_bytes
 
 -- pairs, and then others
 abbrev pub in_front : List Pair → Result (List Pair) (List ℕ) → Result (List Pair) (List ℕ)

@@ -5,11 +5,11 @@ ghost use Rattle.std.specs.List.{All};
 ghost use Rattle.std.specs.Str.{IsUtf8};
 ghost use Rattle.settings_core.specs.File.{file_pairs};
 ghost use Rattle.cli_words.specs.Command.{item_names};
-ghost use Rattle.plate_input.specs.Gathering.{with_pairs, with_settings, with_mesh, Took, Refused, HasGathered, GatherRefusal};
-ghost use Rattle.plate_input.specs.Answers.{faults_after_reads, ReadsFiles};
+ghost use Rattle.plate_input.specs.Inner.Gathering.{with_pairs, with_settings, with_mesh, Took, Refused, HasGathered, GatherRefusal};
+ghost use Rattle.plate_input.specs.Reads.{faults_after_reads, last_failed_after_reads, ReadsFiles};
 
+use crate::faults::PlateFault;
 use crate::files::read_named;
-use answers::Refusal;
 use cli_words::Item;
 use outside::Shelf;
 use settings_core::{FileFault, Given, Pair, read_file};
@@ -98,12 +98,14 @@ fn take<Sh: Shelf>(
     item: &Item,
     shelf: &mut Sh,
     gathered: &mut Gathered,
-) -> Result<(), Refusal>
+) -> Result<(), PlateFault>
     requires { All IsUtf8 (item_names (item.now ∷ [])) }
     ensures took { OnOk result (Took item.now gathered.old gathered.new (Sh.store shelf.old) (Sh.store shelf.new)) }
     ensures refused { IfErr result (λ r. Refused r item.now (Sh.store shelf.old) (Sh.store shelf.new)) }
     ensures files { (Sh.store shelf.new).files ≡ (Sh.store shelf.old).files }
     ensures faults { (Sh.store shelf.new).faults ≡ faults_after_reads result (Sh.store shelf.old).faults }
+    ensures last_failed { (Sh.store shelf.new).last_failed ≡ last_failed_after_reads result
+        (Sh.store shelf.old).last_failed }
 {
     match item {
         Item::Pair(pair) => Ok(gathered.take_pair(alloc, pair)?),
@@ -123,13 +125,15 @@ pub(crate) fn gather<Sh: Shelf>(
     alloc: Global,
     items: &[Item],
     shelf: &mut Sh,
-) -> Result<Gathered, Refusal>
+) -> Result<Gathered, PlateFault>
     requires { All IsUtf8 (item_names items.now) }
     ensures gathered { IfOk result (HasGathered items.now (Sh.store shelf.old).files) }
     ensures refused { IfErr result (λ r. GatherRefusal r items.now (Sh.store shelf.old) (Sh.store shelf.new)) }
     ensures reads { ReadsFiles result items.now (Sh.store shelf.old) (Sh.store shelf.new) }
     ensures files { (Sh.store shelf.new).files ≡ (Sh.store shelf.old).files }
     ensures faults { (Sh.store shelf.new).faults ≡ faults_after_reads result (Sh.store shelf.old).faults }
+    ensures last_failed { (Sh.store shelf.new).last_failed ≡ last_failed_after_reads result
+        (Sh.store shelf.old).last_failed }
 {
     let mut gathered = Gathered {
         pairs: Items::new(alloc),

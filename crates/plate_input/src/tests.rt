@@ -5,7 +5,7 @@ ghost use Rattle.std.specs.List.{All};
 ghost use Rattle.std.specs.Str.{IsUtf8};
 ghost use Rattle.cli_words.specs.Command.{IsTask, item_names};
 
-use crate::{Plate, read_plate};
+use crate::{Plate, PlateFault, read_plate};
 use answers::{Refusal, put_refusal};
 use cli_words::{Command, Task, read_words};
 use outside::{MemShelf, MemSink};
@@ -51,10 +51,10 @@ fn task(alloc: Global, line: &str) -> Result<Option<Task>, Fail>
     }
 }
 
-// The line of a refusal, as the console gets it.
-fn refusal_text(alloc: Global, refusal: &Refusal) -> Result<String, Fail> {
+// The line of a fault, as the console gets it.
+fn fault_text(alloc: Global, fault: PlateFault) -> Result<String, Fail> {
     let mut console = MemSink::of(alloc, 99, 99, Vec::new(alloc))?;
-    put_refusal(&mut console, refusal)?;
+    put_refusal(&mut console, &Refusal::from(fault))?;
     Ok(String::from_str(alloc, str::from_utf8(console.bytes()).unwrap_or("?"))?)
 }
 
@@ -80,7 +80,7 @@ fn answer(alloc: Global, line: &str) -> Result<(String, u64), Fail> {
     };
     let text = match read_plate(alloc, &task, &mut shelf) {
         Ok(plate) => plate_text(alloc, &plate)?,
-        Err(refusal) => refusal_text(alloc, &refusal)?,
+        Err(fault) => fault_text(alloc, fault)?,
     };
     Ok((text, shelf.reads()))
 }

@@ -1,6 +1,6 @@
 use Rattle.std.proofs.Common.{◌≡◌, ◌+◌, ◌<◌, ◌≤◌, Err, drop, length, arith, ap, ◌∙◌}
 use Rattle.std.proofs.lemmas.Result.{err_from_is_err_and}
-use Rattle.plate_input.proofs.Gathers.{gathering_at, utf8_at, utf8_here, utf8_rest, refused, reads_refused, faults_since, goes_on, ends_here, reads_all, ended}
+use Rattle.plate_input.proofs.Gathers.{gathering_at, utf8_at, utf8_here, utf8_rest, refused, reads_refused, faults_since, last_failed_since, goes_on, ends_here, reads_all, ended}
 use Rattle.plate_input.proofs.gathered.gather.Goals as goal
 
 pub take-requires : goal.take-requires
@@ -32,6 +32,7 @@ returns-in_err-take g c =
       reads = reads_refused items before next q why;
       files = c.in_err-take.ensures.files ∙ c.loop-item.invariant.gathering.read.files;
       faults = faults_since items (drop i items) before now next kept q c.loop-item.invariant.gathering c.in_err-take.ensures.faults;
+      last_failed = last_failed_since items (drop i items) before now next kept q c.loop-item.invariant.gathering c.in_err-take.ensures.last_failed;
     })
 
 pub loop-item-preserved : goal.loop-item-preserved
@@ -44,7 +45,7 @@ loop-item-preserved g c =
     let next = g.Sh.Shelf.store c.take.new.shelf in
     let lt : c.loop-item.item-index < length c.args.items.now = omega (arith, c.loop-item-test.true) in
     record {
-      gathering = goes_on items (drop (i + 1) items) x before now next c.loop-item.gathered c.take.new.gathered (gathering_at items i x before now c.loop-item.gathered lt c.item-item.is c.loop-item.invariant.gathering) c.in_ok-take.ensures.took c.in_ok-take.ensures.files c.in_ok-take.ensures.faults;
+      gathering = goes_on items (drop (i + 1) items) x before now next c.loop-item.gathered c.take.new.gathered (gathering_at items i x before now c.loop-item.gathered lt c.item-item.is c.loop-item.invariant.gathering) c.in_ok-take.ensures.took c.in_ok-take.ensures.files c.in_ok-take.ensures.faults c.in_ok-take.ensures.last_failed;
       utf8 = utf8_rest x (drop (i + 1) items) (utf8_at items i x lt c.item-item.is c.loop-item.invariant.utf8);
     }
 
@@ -61,4 +62,5 @@ returns g c =
       reads = reads_all items before now c.loop-item.gathered end;
       files = end.read.files;
       faults = end.read.faults;
+      last_failed = end.read.last_failed;
     }

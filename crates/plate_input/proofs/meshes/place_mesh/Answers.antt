@@ -1,7 +1,9 @@
-use Rattle.std.proofs.Common.{◌≡◌, Err, Some, None, List, length, arith, ap, refl, ◌∙◌, subst}
+use Rattle.std.proofs.Common.{◌≡◌, Err, Some, None, List, length, arith, ap, refl, sym, ◌∙◌, subst}
 use Rattle.std.proofs.lemmas.Result.{err_from_is_err_and}
 use Rattle.slice_base.specs.declared.points.Tri.{Tri}
-use Rattle.cross_section.specs.Place.{placed, first_outside}
+use Rattle.mesh_placing.specs.Places.{placed}
+use Rattle.mesh_placing.specs.Volume.{first_outside}
+use Rattle.plate_input.specs.Inner.Stages.{LiesInside}
 use Rattle.plate_input.proofs.Placings.{mesh_unread, mesh_outside, mesh_placed, written}
 use Rattle.plate_input.proofs.meshes.place_mesh.Goals as goal
 
@@ -31,3 +33,19 @@ returns-clause-gives c =
     let as_long : length c.put_in_place.new.tris ≡ c.into_vec-tris.result.len = omega (arith, c.put_in_place.auto.tris, c.as_mut_slice.ensures.len) in
     let stands : c.in_ok-mesh_of-in-Ok.field-0 ≡ placed c.args.settings.now c.args.mesh c.in_ok-read_triangles.field-0 = c.in_ok-mesh_of-in-Ok.ensures ∙ (c.as_slice.ensures.value ∙ (written c.into_vec-tris.result.len c.put_in_place.new.tris c.into_vec-tris.result.items as_long ∙ (c.in-Ok.ensures.moved ∙ ap (placed s m) same))) in
     mesh_placed s m c.args.bytes.now ts c.in_ok-mesh_of-in-Ok.field-0 c.in_ok-read_triangles.ensures.gives none stands
+
+pub returns-clause-inside : goal.returns-clause-inside
+returns-clause-inside c =
+    let s = c.args.settings.now in
+    let new = c.put_in_place.new.tris in
+    let same : c.as_mut_slice.result.now ≡ c.in_ok-read_triangles.field-0 = c.as_mut_slice.ensures.value ∙ c.into_vec-tris.ensures in
+    let same_length : length c.as_mut_slice.result.now ≡ length c.in_ok-read_triangles.field-0 = ap length same in
+    let as_long : length c.put_in_place.new.tris ≡ c.into_vec-tris.result.len = omega (arith, c.put_in_place.auto.tris, c.as_mut_slice.ensures.len) in
+    let stands : c.in_ok-mesh_of-in-Ok.field-0 ≡ c.put_in_place.new.tris = c.in_ok-mesh_of-in-Ok.ensures ∙ (c.as_slice.ensures.value ∙ written c.into_vec-tris.result.len c.put_in_place.new.tris c.into_vec-tris.result.items as_long) in
+    subst (LiesInside s) (sym stands) (record {
+      some = omega (arith, c.put_in_place.auto.tris, same_length, c.in_ok-read_triangles.ensures.some);
+      few = omega (arith, c.put_in_place.auto.tris, same_length, c.in_ok-read_triangles.ensures.few);
+      on_bed = c.in-Ok.ensures.on_bed;
+      over_bed = c.in-Ok.ensures.over_bed;
+      under_top = c.in-Ok.ensures.under_top;
+    })

@@ -3,7 +3,7 @@ use Rattle.std.specs.Vec.Iter.{into_iter_items}
 use Rattle.std.proofs.lemmas.Result.{err_from_is_err_and}
 use Rattle.std.proofs.lemmas.List.Elements.{All-push, All-rest, All-same}
 use Rattle.plate_input.specs.declared.files.TheConstants.{MOST_BYTES}
-use Rattle.plate_input.specs.Meshes.{LiesInside}
+use Rattle.plate_input.specs.Inner.Stages.{LiesInside}
 use Rattle.plate_input.proofs.Rows.{more_at, refused_at, ended_at}
 use Rattle.plate_input.proofs.meshes.place_meshes.Goals as goal
 

@@ -2,7 +2,7 @@ use Rattle.std.proofs.Common.{◌≡◌, ◌+◌, ◌≤◌, length}
 use Rattle.std.specs.List.{All}
 use Rattle.std.specs.Vec.Iter.{into_iter_items}
 use Rattle.plate_input.specs.declared.files.TheConstants.{MOST_BYTES}
-use Rattle.plate_input.specs.Meshes.{LiesInside}
+use Rattle.plate_input.specs.Inner.Stages.{LiesInside}
 use Rattle.plate_input.proofs.Rows.{Reached}
 use Rattle.plate_input.proofs.meshes.place_meshes.Given as goal
 

@@ -3,9 +3,9 @@ use Rattle.std.specs.List.{All}
 use Rattle.std.specs.Str.{IsUtf8}
 use Rattle.std.proofs.lemmas.Result.{err_from_is_err_and}
 use Rattle.cli_words.specs.Command.{item_names}
-use Rattle.plate_input.specs.Gathering.{HasGathered, GatherRefusal}
-use Rattle.plate_input.specs.Answers.{ReadsAll, ReadsBefore}
-use Rattle.plate_input.proofs.Told.{gather_says, one_of, finished_says, finished_reads, finished_faults, few_extruders, some_extruders, extruders_below_eight}
+use Rattle.plate_input.specs.Inner.Gathering.{HasGathered, GatherRefusal}
+use Rattle.plate_input.specs.Reads.{ReadsAll, ReadsBefore}
+use Rattle.plate_input.proofs.Told.{gather_says, one_of, finished_says, finished_reads, finished_faults, finished_last, few_extruders, some_extruders, extruders_below_eight}
 use Rattle.plate_input.proofs.reading.read_plate.Goals as goal
 
 pub gather-requires : goal.gather-requires
@@ -41,10 +41,7 @@ returns-in_err-gathered g c =
       reads = subst (λ is. ReadsBefore q is before after) c.items.ensures c.in_err-gathered.ensures.reads;
       files = c.in_err-gathered.ensures.files;
       faults = c.in_err-gathered.ensures.faults;
-      valid = tt;
-      meshes = tt;
-      some = tt;
-      inside = tt;
+      last_failed = c.in_err-gathered.ensures.last_failed;
     })
 
 pub returns-clause-says : goal.returns-clause-says
@@ -72,3 +69,9 @@ returns-clause-faults g c =
     let before = g.Sh.Shelf.store c.args.shelf.now in
     let after = g.Sh.Shelf.store c.gather.new.shelf in
     finished_faults before.faults after.faults c.in_ok-gathered.gathered c.finish.result c.finish.ensures.gives c.in_ok-gathered.ensures.faults
+
+pub returns-clause-last_failed : goal.returns-clause-last_failed
+returns-clause-last_failed g c =
+    let before = g.Sh.Shelf.store c.args.shelf.now in
+    let after = g.Sh.Shelf.store c.gather.new.shelf in
+    finished_last before.last_failed after.last_failed c.in_ok-gathered.gathered c.finish.result c.finish.ensures.gives c.in_ok-gathered.ensures.last_failed

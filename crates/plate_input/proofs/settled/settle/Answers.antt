@@ -28,7 +28,7 @@ unknown_differs m e = cc
 
 faulty_pair : (pairs : List Pair) (es : List ℕ) (kind : ℕ → SettingFault) (p : ℕ) (pair : Pair) (key : List ℕ) → fault_of pairs es ≡ Some (kind p) → p < length pairs → pair ≡ get_or pairs p pair → key ≡ pair.key → HasFaultyPair pairs es kind pair.scope key
 faulty_pair pairs es kind p pair key e lt is same =
-    record { place = p; pair = pair; at_fault = e; stands = rw (slice_get-get_or pairs p pair lt) (ap Some (sym is)); its_scope = refl; its_key = same }
+    record { index = p; pair = pair; at_fault = e; stands = rw (slice_get-get_or pairs p pair lt) (ap Some (sym is)); its_scope = refl; its_key = same }
 
 pub returns-in_ok-key-in-Err-BadValue-clause-refused : goal.returns-in_ok-key-in-Err-BadValue-clause-refused
 returns-in_ok-key-in-Err-BadValue-clause-refused c =

@@ -1,5 +1,5 @@
 use Rattle.std.proofs.Common.{◌≡◌}
-use Rattle.plate_input.specs.Gathering.{with_pairs}
+use Rattle.plate_input.specs.Inner.Gathering.{with_pairs}
 use Rattle.plate_input.proofs.gathered.Gathered.take_pairs.Given as goal
 
 abbrev pub invariant-loop-pair : goal.invariant-loop-pair

@@ -1,0 +1,4 @@
+-- Words that only bodies and proofs need.
+pub mod Filing
+pub mod Shelves
+pub mod Tops

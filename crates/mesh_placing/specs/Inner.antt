@@ -1,0 +1,2 @@
+-- Words that only bodies and proofs need.
+pub mod Moves

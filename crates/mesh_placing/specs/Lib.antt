@@ -1,0 +1,4 @@
+pub mod Extents
+pub mod Places
+pub mod Volume
+pub mod Inner

@@ -1,0 +1,3 @@
+-- What bodies and proofs need alone.
+pub mod Gathering
+pub mod Stages
