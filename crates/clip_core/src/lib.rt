@@ -3,16 +3,20 @@
 // `clipped_of` of `specs/Clip.antt`, or the number of edges where there are too many.
 #![tactic(auto)]
 
+mod areas;
 mod bundles;
 mod clipping;
 mod keeping;
 mod laws;
 mod outlines;
+mod rays;
 mod tidying;
 mod windings;
 
+pub use areas::area;
 pub use bundles::Bundle;
 pub use clipping::{Rule, clean, meet, subtract, unite};
+pub use edge_cut::CutFault;
 pub use keeping::Operation;
 pub use laws::{
     bundles_are_in_order, cancelled_goes, is_kept_exchanged, net_is_up_less_down,

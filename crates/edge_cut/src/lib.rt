@@ -3,20 +3,22 @@
 // `cut_of` of `specs/Cut.antt`, or the number of edges where there are too many.
 #![tactic(auto)]
 
+mod boxes;
 mod crossings;
 mod cutting;
 mod laws;
+mod pairs;
 mod passes;
-mod plane;
 mod stops;
 
 pub use crossings::{Met, meeting};
 pub use cutting::{CutFault, cut};
 pub use laws::{
-    is_cut_alike, is_cut_exchanged, own_edge_adds_no_stop, stays_cut, stops_are_ordered,
+    crossing_is_exchanged, crossing_lies_on_both, is_cut_alike, is_cut_exchanged,
+    own_edge_adds_no_stop, shared_ends_lie_on_both, some_edges_give_all_stops, stays_cut,
+    stops_are_ordered, whole_edges_meet_at_ends,
 };
 pub use passes::Marked;
-pub use plane::{cross, dot};
 
 #[cfg(test)]
 mod tests;

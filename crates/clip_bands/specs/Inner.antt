@@ -1,0 +1,2 @@
+-- What the bodies and their proofs alone speak of.
+pub mod Blocks

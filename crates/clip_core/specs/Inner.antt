@@ -1,0 +1,5 @@
+-- What the bodies and their proofs alone speak of.
+pub mod Found
+pub mod Small
+pub mod Rays
+pub mod Placed

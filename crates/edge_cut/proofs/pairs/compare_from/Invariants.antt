@@ -1,0 +1,16 @@
+use Rattle.std.proofs.Common.{◌<◌, ◌≤◌, ◌-◌, length}
+use Rattle.std.specs.List.{All}
+use Rattle.edge_cut.specs.Inner.Pairs.{Keeps, IsInside, ComparedUpTo}
+use Rattle.edge_cut.proofs.pairs.compare_from.Given as goal
+
+abbrev pub invariant-walk : goal.invariant-walk
+invariant-walk l = record {
+  behind : l.r < l.s;
+  within : l.s ≤ length l.extents;
+  kept : Keeps l.fn.pairs.items l.pairs.items;
+  inside : All (IsInside (length l.all)) l.pairs.items;
+  so_far : ComparedUpTo l.all l.pairs.items l.extents l.r l.s;
+}
+
+abbrev pub decreases-walk : goal.decreases-walk
+decreases-walk l = length l.extents - l.s

@@ -1,0 +1,27 @@
+use Rattle.std.proofs.Common.{◌≤◌, ◌+◌, ◌-◌, ◌*◌, length, get_or, drop, arith}
+use Rattle.std.proofs.lemmas.List.{length-take}
+use Rattle.edge_cut.specs.Inner.Places.{nothing}
+use Rattle.edge_cut.proofs.Counts.{so_far-step, count-step}
+use Rattle.edge_cut.proofs.Read.{group-has}
+use Rattle.edge_cut.proofs.passes.cut_by_pairs.Goals as goal
+
+pub find_stops-requires-clause-some_are : goal.find_stops-requires-clause-some_are
+find_stops-requires-clause-some_are c =
+    group-has c.args.pairs.now c.loop-place.done c.group_end-end.result c.loop-place.place c.group_end-end.ensures.within c.loop-place.invariant.grouped c.group_end-end.ensures.next
+
+pub loop-place-preserved : goal.loop-place-preserved
+loop-place-preserved c =
+    let place = c.loop-place.place in
+    let m = get_or c.args.all.now place nothing in
+    let h = c.loop-place.invariant in
+    let adds = rw c.as_slice.ensures.value at c.in_ok-add_pieces.ensures.ok in
+    let adds_stops = rw c.in_ok-find_stops.ensures.ok at adds in
+    let done = c.loop-place.done in
+    let end = c.group_end-end.result in
+    let few : length c.find_stops.new.stops.items ≤ 2 * (end - done) + 2 = omega (arith, c.in_ok-find_stops.ensures.few, length-take (end - done) (drop done c.args.pairs.now)) in
+    record {
+      within = c.group_end-end.ensures.within;
+      grouped = c.group_end-end.ensures.next;
+      small = count-step place c.loop-place.done c.group_end-end.result c.loop-place.pieces c.add_pieces.new.pieces m.second c.find_stops.new.stops.items c.group_end-end.ensures.later few adds h.small;
+      so_far = so_far-step c.args.all.now place c.loop-place.pieces c.add_pieces.new.pieces c.loop-place-test.true adds_stops h.so_far;
+    }

@@ -1,0 +1,13 @@
+use Rattle.std.proofs.Common.{◌≤◌, ◌+◌, ◌*◌, drop, length}
+use Rattle.edge_cut.specs.Cut.{cut_by, pass_of}
+use Rattle.edge_cut.specs.Inner.Pairs.{FirstFrom}
+use Rattle.edge_cut.proofs.Counts.{SoFar}
+use Rattle.edge_cut.proofs.passes.cut_by_pairs.Given as goal
+
+abbrev pub invariant-loop-place : goal.invariant-loop-place
+invariant-loop-place l = record {
+  within : l.done ≤ length l.pairs;
+  grouped : FirstFrom l.pairs l.done l.place;
+  small : l.pieces.count ≤ 2 * l.done + 2 * l.place;
+  so_far : SoFar l.pieces (cut_by l.all (drop l.place l.all)) (pass_of l.all);
+}

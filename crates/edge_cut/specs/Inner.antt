@@ -1,0 +1,7 @@
+-- What the bodies and their proofs alone speak of.
+pub mod Heights
+pub mod Places
+pub mod Pairs
+pub mod Sides
+pub mod Gathered
+pub mod Passes
