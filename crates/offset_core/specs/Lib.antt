@@ -1,0 +1,4 @@
+pub mod Normals
+pub mod Corners
+pub mod Offset
+pub mod Inner

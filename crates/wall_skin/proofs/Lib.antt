@@ -1,0 +1,5 @@
+pub mod Faults
+pub mod Sizes
+pub mod Boxes
+pub mod Middles
+pub mod Splits
