@@ -1,0 +1,15 @@
+use Rattle.std.proofs.Common.{◌≡◌, ◌∷◌, drop}
+use Rattle.slice_base.specs.Boxes.{around}
+use Rattle.slice_base.specs.Regions.{RegionIn}
+use Rattle.slice_base.specs.Outcomes.{fold_ok}
+use Rattle.clip_core.specs.declared.keeping.Operation.TheVariants.{Subtract}
+use Rattle.clip_core.specs.Clip.{clipped_of}
+use Rattle.wall_skin.specs.Sizes.{IsSmall}
+use Rattle.area_stage.proofs.outlines.without.Given as goal
+
+abbrev pub invariant-loop-other : goal.invariant-loop-other
+invariant-loop-other l = record {
+  so_far : fold_ok (clipped_of Subtract) l.rest (drop l.other-index l.others) ≡ fold_ok (clipped_of Subtract) l.region (l.first ∷ l.others);
+  small : IsSmall l.rest;
+  within : RegionIn (around 1000000) l.rest;
+}

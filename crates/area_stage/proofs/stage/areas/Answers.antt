@@ -1,0 +1,14 @@
+use Rattle.std.proofs.Common.{◌∙◌, ap, Err}
+use Rattle.std.proofs.lemmas.Result.{err_from_is_err_and}
+use Rattle.area_stage.proofs.JobSteps.{gives-job, gives-no_job, result-or}
+use Rattle.area_stage.proofs.stage.areas.Goals as goal
+
+pub returns-in_err-count-clause-one : goal.returns-in_err-count-clause-one
+returns-in_err-count-clause-one c =
+    let p = err_from_is_err_and c.from_residual.result c.from_residual.ensures.1 in
+    let e = p.1 ∙ ap Err p.2 in
+    result-or c.args.settings c.args.meshes.now c.from_residual.result (c.one_areas.ensures c.args.settings c.args.meshes.now) (gives-no_job c.args.settings c.args.meshes.now c.from_residual.result c.in_err-count.field-0.0 e c.in_err-count.ensures.refused)
+
+pub returns-clause-one : goal.returns-clause-one
+returns-clause-one c =
+    result-or c.args.settings c.args.meshes.now c.job_up_to.result (c.one_areas.ensures c.args.settings c.args.meshes.now) (gives-job c.args.settings c.args.meshes.now c.in_ok-count.count c.job_up_to.result c.in_ok-count.ensures.fits c.job_up_to.ensures)

@@ -1,0 +1,10 @@
+pub mod Faults
+pub mod Meshes
+pub mod Outlines
+pub mod Walls
+pub mod Skirt
+pub mod Fills
+pub mod Extruders
+pub mod Jobs
+pub mod Areas
+pub mod Inner

@@ -1,0 +1,206 @@
+// Walls, and skin and fill, of all layers: one layer after another, or many at once.
+
+ghost use Rattle.std.specs.Prelude.{◌≡◌, ◌≤◌, ◌<◌, ◌^◌, ℕ, List, length, slice_index_or, Result, IfOk, Ok, MatchResult};
+ghost use Rattle.std.specs.List.{All};
+ghost use Rattle.slice_base.specs.Boxes.{TriIn, around};
+ghost use Rattle.slice_base.specs.Outcomes.{up_to};
+ghost use Rattle.cross_section.specs.Planes.{plane_of};
+ghost use Rattle.wall_skin.specs.declared.skins.Split.{Split};
+ghost use Rattle.area_stage.specs.declared.faults.AreaFault.{AreaFault};
+ghost use Rattle.area_stage.specs.declared.walling.LayerWalls.{LayerWalls};
+ghost use Rattle.area_stage.specs.Inner.Faults.{IsAreaFault, GivesNumber};
+ghost use Rattle.area_stage.specs.Walls.{layer_walls_of};
+ghost use Rattle.area_stage.specs.Fills.{layer_splits_of};
+ghost use Rattle.area_stage.specs.Inner.Walls.{AreJobWalls, GivesLayerWalls};
+
+use crate::faults::AreaFault;
+use crate::fills::layer_splits;
+use crate::held::{Column, Filled};
+use crate::walling::{JobWalls, LayerWalls, layer_walls, no_walls, with_layer};
+use cross_section::Mesh;
+use settings_core::Settings;
+use slice_base::{Items, NoMemory};
+use std::alloc::Global;
+use std::thread;
+use std::thread::Threads;
+
+// The most threads that work at once.
+const MAX_THREADS: usize = 64;
+
+/// The walls of so many layers, one layer after another.
+pub(crate) fn job_walls(
+    alloc: Global,
+    settings: &Settings,
+    meshes: &[Mesh],
+    count: u32,
+) -> Result<JobWalls, AreaFault>
+    requires as_many { length meshes.now ≡ length settings.now.meshes }
+    requires few { count ≤ 40000 }
+    requires low { (k : ℕ) → k < count → plane_of settings.now k < 2 ^ 31 }
+    requires inside { All (All (TriIn (around 1000000))) meshes.now }
+    ensures { MatchResult result (AreJobWalls settings.now meshes.now count)
+        (IsAreaFault (up_to (layer_walls_of settings.now meshes.now) count)) }
+{
+    let mut walls = no_walls(alloc);
+    for k in 0..count {
+        walls = with_layer(walls, layer_walls(alloc, settings, meshes, k)?)?;
+    }
+    Ok(walls)
+}
+
+// So many results, none worked out yet.
+fn no_results<T: Drop>(alloc: Global, count: u32) -> Result<Vec<Result<T, AreaFault>>, NoMemory>
+    ensures { IfOk result (λ v. length v.items ≡ count) }
+{
+    let mut results = Vec::new(alloc);
+    for _ in 0..count {
+        results.push(Err(AreaFault::NoMemory))?;
+    }
+    Ok(results)
+}
+
+fn work_out_walls<R: Threads + Sync>(
+    rt: &R,
+    alloc: Global,
+    settings: &Settings,
+    meshes: &[Mesh],
+    results: &mut [Result<LayerWalls, AreaFault>],
+)
+    requires as_many { length meshes.now ≡ length settings.now.meshes }
+    requires few { length results.old ≤ 40000 }
+    requires low { (k : ℕ) → k < length results.old → plane_of settings.now k < 2 ^ 31 }
+    requires inside { All (All (TriIn (around 1000000))) meshes.now }
+    ensures each { (i : ℕ) (d : Result LayerWalls AreaFault) → i < length results.old
+        → GivesLayerWalls settings.now meshes.now i (slice_index_or results.new i d) }
+{
+    thread::for_each_mut(
+        rt,
+        results,
+        MAX_THREADS,
+        &|k, slot| { *slot = layer_walls(alloc, settings, meshes, k as u32) },
+    );
+}
+
+fn walls_at_once<R: Threads + Sync>(
+    rt: &R,
+    alloc: Global,
+    settings: &Settings,
+    meshes: &[Mesh],
+    count: u32,
+) -> Result<Vec<Result<LayerWalls, AreaFault>>, NoMemory>
+    requires as_many { length meshes.now ≡ length settings.now.meshes }
+    requires few { count ≤ 40000 }
+    requires low { (k : ℕ) → k < count → plane_of settings.now k < 2 ^ 31 }
+    requires inside { All (All (TriIn (around 1000000))) meshes.now }
+    ensures each { IfOk result (λ v. (i : ℕ) (d : Result LayerWalls AreaFault) → i < length v.items
+        → GivesLayerWalls settings.now meshes.now i (slice_index_or v.items i d)) }
+    ensures len { IfOk result (λ v. length v.items ≡ count) }
+{
+    let mut results = no_results(alloc, count)?;
+    work_out_walls(rt, alloc, settings, meshes, results.as_mut_slice());
+    Ok(results)
+}
+
+/// The same, by many threads.
+pub(crate) fn job_walls_wide<R: Threads + Sync>(
+    rt: &R,
+    alloc: Global,
+    settings: &Settings,
+    meshes: &[Mesh],
+    count: u32,
+) -> Result<JobWalls, AreaFault>
+    requires as_many { length meshes.now ≡ length settings.now.meshes }
+    requires few { count ≤ 40000 }
+    requires low { (k : ℕ) → k < count → plane_of settings.now k < 2 ^ 31 }
+    requires inside { All (All (TriIn (around 1000000))) meshes.now }
+    ensures { MatchResult result (AreJobWalls settings.now meshes.now count)
+        (IsAreaFault (up_to (layer_walls_of settings.now meshes.now) count)) }
+{
+    let results = walls_at_once(rt, alloc, settings, meshes, count)?;
+    let mut walls = no_walls(alloc);
+    for item in results {
+        walls = with_layer(walls, item?)?;
+    }
+    Ok(walls)
+}
+
+/// Skin and fill of so many layers, one layer after another.
+pub(crate) fn job_splits(
+    alloc: Global,
+    settings: &Settings,
+    columns: &[Column],
+    count: u32,
+) -> Result<Items<Items<Filled>>, AreaFault>
+    requires as_many { length columns.now ≡ length settings.now.meshes }
+    requires long { All (λ column. length column ≡ count) columns.now }
+    ensures { MatchResult result (λ splits. up_to (layer_splits_of settings.now columns.now) count ≡ Ok splits)
+        (IsAreaFault (up_to (layer_splits_of settings.now columns.now) count)) }
+{
+    let mut splits = Items::new(alloc);
+    for k in 0..count {
+        splits.push(layer_splits(alloc, settings, columns, k)?)?;
+    }
+    Ok(splits)
+}
+
+fn work_out_splits<R: Threads + Sync>(
+    rt: &R,
+    alloc: Global,
+    settings: &Settings,
+    columns: &[Column],
+    results: &mut [Result<Items<Filled>, AreaFault>],
+)
+    requires as_many { length columns.now ≡ length settings.now.meshes }
+    requires few { length results.old ≤ 40000 }
+    requires long { All (λ column. length column ≡ length results.old) columns.now }
+    ensures each { (i : ℕ) (d : Result (List Split) AreaFault) → i < length results.old
+        → GivesNumber (layer_splits_of settings.now columns.now) i (slice_index_or results.new i d) }
+{
+    thread::for_each_mut(
+        rt,
+        results,
+        MAX_THREADS,
+        &|k, slot| { *slot = layer_splits(alloc, settings, columns, k as u32) },
+    );
+}
+
+fn splits_at_once<R: Threads + Sync>(
+    rt: &R,
+    alloc: Global,
+    settings: &Settings,
+    columns: &[Column],
+    count: u32,
+) -> Result<Vec<Result<Items<Filled>, AreaFault>>, NoMemory>
+    requires as_many { length columns.now ≡ length settings.now.meshes }
+    requires few { count ≤ 40000 }
+    requires long { All (λ column. length column ≡ count) columns.now }
+    ensures each { IfOk result (λ v. (i : ℕ) (d : Result (List Split) AreaFault) → i < length v.items
+        → GivesNumber (layer_splits_of settings.now columns.now) i (slice_index_or v.items i d)) }
+    ensures len { IfOk result (λ v. length v.items ≡ count) }
+{
+    let mut results = no_results(alloc, count)?;
+    work_out_splits(rt, alloc, settings, columns, results.as_mut_slice());
+    Ok(results)
+}
+
+/// The same, by many threads.
+pub(crate) fn job_splits_wide<R: Threads + Sync>(
+    rt: &R,
+    alloc: Global,
+    settings: &Settings,
+    columns: &[Column],
+    count: u32,
+) -> Result<Items<Items<Filled>>, AreaFault>
+    requires as_many { length columns.now ≡ length settings.now.meshes }
+    requires few { count ≤ 40000 }
+    requires long { All (λ column. length column ≡ count) columns.now }
+    ensures { MatchResult result (λ splits. up_to (layer_splits_of settings.now columns.now) count ≡ Ok splits)
+        (IsAreaFault (up_to (layer_splits_of settings.now columns.now) count)) }
+{
+    let results = splits_at_once(rt, alloc, settings, columns, count)?;
+    let mut splits = Items::new(alloc);
+    for item in results {
+        splits.push(item?)?;
+    }
+    Ok(splits)
+}

@@ -1,0 +1,9 @@
+pub mod Paths
+pub mod Plans
+pub mod Areas
+pub mod Extruders
+pub mod Orders
+pub mod Jobs
+pub mod Steps
+pub mod Leads
+pub mod Inserts
