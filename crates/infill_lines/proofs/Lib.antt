@@ -1,0 +1,11 @@
+mod Rounds
+mod Ways
+mod Pairing
+mod Counting
+mod Filing
+mod Rings
+mod Parts
+mod Slants
+mod Crossed
+mod Insides
+mod Sorting

@@ -1,0 +1,4 @@
+pub mod Angles
+pub mod Crossings
+pub mod Fill
+pub mod Inner

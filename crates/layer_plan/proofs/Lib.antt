@@ -1,0 +1,4 @@
+mod Drawings
+mod Soundness
+mod Volumes
+mod Extruders

@@ -1,0 +1,19 @@
+use Rattle.std.proofs.Common.{◌≡◌, List, drop, sym, ap, ◌∙◌, subst}
+use Rattle.std.specs.List.{All}
+use Rattle.std.proofs.lemmas.List.Elements.{All-drop}
+use Rattle.plan_types.specs.Areas.{IsArea}
+use Rattle.path_order.specs.declared.pieces.Piece.{Piece}
+use Rattle.layer_plan.specs.Pieces.{loops_of_all}
+use Rattle.layer_plan.specs.Inner.Sound.{IsPiece}
+use Rattle.layer_plan.proofs.Soundness.{walls-pieces}
+use Rattle.layer_plan.proofs.groups.inner_walls.Goals as goal
+
+pub returns-clause-group : goal.returns-clause-group
+returns-clause-group c =
+    let walls = c.areas.inside.walls in
+    let is : c.in_ok-loops_of_all.field-0 ≡ loops_of_all (drop 1 walls) =
+    c.in_ok-loops_of_all.ensures ∙ ap loops_of_all (c.behind_first.ensures ∙ ap (drop 1) c.items.ensures) in
+    record {
+      pieces_are = subst (λ (ps : List Piece). All IsPiece ps) (sym is) (walls-pieces (drop 1 walls) (All-drop IsArea 1 walls c.areas.invariant.walls_are));
+      pen_is = c.pen_of.ensures.pen;
+    }

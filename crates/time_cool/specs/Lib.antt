@@ -1,0 +1,4 @@
+pub mod Times
+pub mod Cooling
+pub mod Fans
+pub mod Inner
