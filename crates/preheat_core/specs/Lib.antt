@@ -1,0 +1,5 @@
+pub mod Need
+pub mod Spots
+pub mod Times
+pub mod Places
+pub mod Inner

@@ -1,0 +1,15 @@
+pub mod Lists
+pub mod Law
+pub mod Twice
+pub mod Few
+pub mod Room
+pub mod HeldFew
+pub mod Windows
+pub mod Pieces
+pub mod Switching
+pub mod Takes
+pub mod LetsGo
+pub mod Fresh
+pub mod Keeps
+pub mod EachSwitch
+pub mod Rows
