@@ -1,0 +1,5 @@
+pub mod File
+pub mod Streams
+pub mod Buffers
+pub mod Accepted
+pub mod Inner
