@@ -1,2 +1,9 @@
-pub mod Words
-pub mod Plans
+pub mod Crossing
+pub mod Samples
+pub mod Streams
+pub mod Plates
+pub mod UseCounts
+pub mod Endings
+pub mod Rings
+pub mod RingEnds
+pub mod WideEndings

@@ -1,112 +1,162 @@
--- What each answer says.
-use Rattle.std.specs.Prelude.{ℕ, ◌≡◌, List, length, ◌⊎◌, Option, Some, None, Result, Ok, Err, IsOk}
+-- What an answer says of the shelf, the output and the console.
+use Rattle.std.specs.Prelude.{ℕ, ◌≡◌, ◌⊎◌, Bool, true, false, cond, List, [], ◌++◌, length, Option, Some, None, Result, Ok, Err}
 use Rattle.slice_base.specs.Causes.{counted}
+use Rattle.slice_base.specs.Shapes.{Bytes}
 use Rattle.outside.specs.Store.{Store}
 use Rattle.outside.specs.Output.{Output, Put, PutFront}
 use Rattle.answers.specs.declared.refusal.Refusal.{Refusal}
 use Rattle.answers.specs.declared.refusal.Refusal.TheVariants as refusal
-use Rattle.answers.specs.Said.{said_done, said_refusal}
+use Rattle.answers.specs.Lines.{refusal_line}
 use Rattle.cli_words.specs.declared.command.Command.{Command}
 use Rattle.cli_words.specs.declared.command.Command.TheVariants.{Slice, Serial, Check, Gen}
-use Rattle.cli_words.specs.declared.command.Item.{Item}
 use Rattle.cli_words.specs.declared.command.Task.{Task}
 use Rattle.cli_words.specs.declared.command.WordFault.{WordFault}
 use Rattle.cli_words.specs.Command.{command_of}
-use Rattle.plate_input.specs.Answers.{FailedRead, ReadsAll, ReadsBefore}
-use Rattle.outline_file.specs.Outline.{file_of}
-use Rattle.outline_file.specs.Written.{Wrote, BrokeOff}
-use Rattle.slice_engine.specs.declared.jobs.Job.{Job}
-use Rattle.slice_engine.specs.Job.{JobGives, TaskGives}
+use Rattle.plan_types.specs.Jobs.{JobValue}
+use Rattle.plan_buffer.specs.Accepted.{Finished}
+use Rattle.ring_core.specs.declared.event.Event.{Event}
+use Rattle.ring_core.specs.Core.{IsRun}
+use Rattle.slice_engine.specs.declared.done.Done.{Done}
+use Rattle.slice_engine.specs.Jobs.{Files, CommandGives}
+use Rattle.slice_engine.specs.Reads.{SaysDefined, HasFailedRead}
+use Rattle.slice_engine.specs.Files.{job_file, BrokenOff, CutShort}
+use Rattle.slice_engine.specs.Done.{IsDone, done_text, journal_text}
+use Rattle.slice_engine.specs.Journals.{IsFullRun, CutShortWide}
 
--- how many reads there were before an answer: one for each file that the items name, unless the read of a file
--- was the last, or memory ran out
-abbrev pub RunReads : Option Refusal → List Item → Store → Store → Type 0
-RunReads None items before after = ReadsAll items before after
-RunReads (Some r) items before after = ReadsBefore r items before after
+-- the name of the file that a command writes, where it writes one
+abbrev pub output_of : Result Command WordFault → Option Bytes
+output_of (Ok (Slice task)) = task.out
+output_of (Ok (Serial task)) = task.out
+output_of (Ok (Check task)) = None
+output_of (Ok (Gen number name)) = Some name
+output_of (Err f) = None
 
--- the same of a command, which changes no file; the shelf is as before where the words are at fault or ask for
--- what isn't built
-abbrev pub CommandReads : Result Command WordFault → Option Refusal → Store → Store → Type 0
-CommandReads (Ok (Serial task)) answer before after = RunReads answer task.items before after × (after.files ≡ before.files)
-CommandReads (Ok (Slice task)) answer before after = after ≡ before
-CommandReads (Ok (Check task)) answer before after = after ≡ before
-CommandReads (Ok (Gen n name)) answer before after = after ≡ before
-CommandReads (Err f) answer before after = after ≡ before
-
--- the same of words
-abbrev pub WordsRead : List (List ℕ) → Option Refusal → Store → Store → Type 0
-WordsRead words answer before after = CommandReads (command_of words) answer before after
-
--- the refusal in an answer
-abbrev pub refusal_in : {T : Type 0} → Result T Refusal → Option Refusal
-refusal_in (Ok x) = None
-refusal_in (Err r) = Some r
-
--- the shelf's count of faults after the answer of a run: a failed read counts one, and nothing else does
-abbrev pub read_faults : Option Refusal → ℕ → ℕ
-read_faults (Some (refusal.ReadFault name)) before = counted before
-read_faults answer before = before
-
--- the same of the sink: a failed write counts one
+-- the sink's count of faults after a run: a failed write counts one, and nothing else does
 abbrev pub write_faults : Option Refusal → ℕ → ℕ
 write_faults (Some refusal.WriteFault) before = counted before
 write_faults answer before = before
 
--- the words have no fault, and the read of one of their files failed
-abbrev pub HasFailedRead : Result Command WordFault → List ℕ → Store → Store → Type 0
-HasFailedRead (Ok (Serial task)) name before after = FailedRead task.items name before after
-HasFailedRead (Ok (Slice task)) name before after = ⊥
-HasFailedRead (Ok (Check task)) name before after = ⊥
-HasFailedRead (Ok (Gen n name')) name before after = ⊥
-HasFailedRead (Err f) name before after = ⊥
+-- the same of a run of many workers; where memory ran out in a slice, a write of another worker may have failed too
+abbrev pub WriteFaultsWide : Option Refusal → ℕ → ℕ → Type 0
+WriteFaultsWide (Some refusal.WriteFault) before after = after ≡ counted before
+WriteFaultsWide (Some refusal.NoMemory) before after = (after ≡ before) ⊎ (after ≡ counted before)
+WriteFaultsWide answer before after = after ≡ before
 
--- what a planned job, or a refusal, says of what defines it: it is what is defined, but for a failed read
--- and want of memory
-abbrev pub SaysPlanned : Result Job Refusal → (Result Job Refusal → Type 0) → (List ℕ → Type 0) → Type 0 → Type 0
-SaysPlanned (Ok job) gives failed_read faultless = gives (Ok job)
-SaysPlanned (Err (refusal.ReadFault name)) gives failed_read faultless = failed_read name
-SaysPlanned (Err refusal.NoMemory) gives failed_read faultless = faultless
-SaysPlanned (Err r) gives failed_read faultless = gives (Err r)
+-- ---- the output
 
--- the same of a task and its files
-abbrev pub SaysTask : Result Job Refusal → Task → Store → Store → Type 0
-SaysTask answer task before after = SaysPlanned answer (TaskGives task before.files) (λ name. FailedRead task.items name before after) (Unit {0})
+-- the output holds exactly the file under its name, or, of a command that writes none, is as before
+abbrev pub HoldsFile : Option Bytes → Bytes → Output → Output → Type 0
+HoldsFile (Some name) file before after = Finished name file before after
+HoldsFile None file before after = after ≡ before
 
--- the same of words and files; want of memory comes only where the words have no fault
-abbrev pub SaysJob : Result Job Refusal → List (List ℕ) → Store → Store → Type 0
-SaysJob answer words before after = SaysPlanned answer (JobGives words before.files) (λ name. HasFailedRead (command_of words) name before after) (IsOk (command_of words))
+-- the command was done: its job is defined, and the output holds exactly the file
+pub record DidCommand (command : Result Command WordFault) (files : Files) (done : Done) (before after : Output) : Type 0 where
+  pub job : JobValue
+  pub defined : CommandGives command files (Ok job)
+  pub is_done : IsDone command job done
+  pub holds : HoldsFile (output_of command) (job_file job) before after
+
+-- the output failed while the file of the command's job was written
+pub record FailedToWrite (command : Result Command WordFault) (files : Files) (before after : Output) : Type 0 where
+  pub job : JobValue
+  pub defined : CommandGives command files (Ok job)
+  pub name : Bytes
+  pub named : output_of command ≡ Some name
+  pub broken_off : BrokenOff name (job_file job) before after
+
+-- memory ran out while the file of the command's job was written, behind k plans
+pub record StoppedShort (command : Result Command WordFault) (files : Files) (before after : Output) : Type 0 where
+  pub job : JobValue
+  pub defined : CommandGives command files (Ok job)
+  pub name : Bytes
+  pub named : output_of command ≡ Some name
+  pub k : ℕ
+  pub cut_short : CutShort name job k before after
+
+-- what is said of a command that was refused before the output was begun
+pub record RefusedBefore (command : Result Command WordFault) (r : Refusal) (shelf shelf_after : Store) (before after : Output) : Type 0 where
+  pub says : SaysDefined (Err r) (CommandGives command shelf.files) (λ name. HasFailedRead command name shelf shelf_after) (Unit {0})
+  pub untouched : after ≡ before
+
+-- what the end of a command in one thread says of the shelf and the output
+abbrev pub SaysEnd : Result Done Refusal → Result Command WordFault → Store → Store → Output → Output → Type 0
+SaysEnd (Ok done) command shelf shelf_after before after = DidCommand command shelf.files done before after
+SaysEnd (Err refusal.WriteFault) command shelf shelf_after before after = FailedToWrite command shelf.files before after
+SaysEnd (Err refusal.NoMemory) command shelf shelf_after before after =
+    RefusedBefore command refusal.NoMemory shelf shelf_after before after ⊎ StoppedShort command shelf.files before after
+SaysEnd (Err r) command shelf shelf_after before after = RefusedBefore command r shelf shelf_after before after
+
+-- ---- the console
 
 -- the console got the line of a refusal, or where it failed a front of it
 abbrev pub SaidRefusal : Refusal → Output → Output → Type 0
-SaidRefusal r before after = Put before (said_refusal r) after ⊎ PutFront before (said_refusal r) after
+SaidRefusal r before after = Put before (refusal_line r) after ⊎ PutFront before (refusal_line r) after
 
--- the sink holds exactly the file of the job that words and files define
-pub record WroteJob (words : List (List ℕ)) (files : Option (List (List ℕ × List ℕ))) (job : Job) (before after : Output) : Type 0 where
-  pub defined : JobGives words files (Ok job)
-  pub wrote : Wrote job.output (file_of job.settings job.outlines) before after
-
--- the sink failed while that job was written
-pub record BrokeOffJob (words : List (List ℕ)) (files : Option (List (List ℕ × List ℕ))) (job : Job) (before after : Output) : Type 0 where
-  pub defined : JobGives words files (Ok job)
-  pub broke_off : BrokeOff job.output (file_of job.settings job.outlines) before after
-
--- what was written, by how many layers or the refusal
-abbrev pub SaysWritten : Result ℕ Refusal → List (List ℕ) → Store → Store → Output → Output → Type 0
-SaysWritten (Ok n) words shelf shelf_after sink sink_after = (job : Job) × WroteJob words shelf.files job sink sink_after × (n ≡ length job.outlines.layers)
-SaysWritten (Err refusal.WriteFault) words shelf shelf_after sink sink_after = (job : Job) × BrokeOffJob words shelf.files job sink sink_after
-SaysWritten (Err r) words shelf shelf_after sink sink_after = SaysJob (Err r) words shelf shelf_after × (sink_after ≡ sink)
+-- the lines of a run that was done: one of what was done, and those of the journal where it is asked for
+abbrev pub done_lines : Done → Bool → List Event → Bytes
+done_lines done is_asked journal = done_text done ++ cond is_asked (journal_text journal) []
 
 -- What the console got of how a run ended, and the answer that this makes. Where the console fails behind a
 -- refusal, the refusal stays.
-abbrev pub Tells : Result ℕ Refusal → Option Refusal → Output → Output → Type 0
-Tells (Ok n) None before after = Put before (said_done n) after
-Tells (Ok n) (Some r) before after = (r ≡ refusal.ConsoleFault) × PutFront before (said_done n) after
-Tells (Err r) None before after = ⊥
-Tells (Err r) (Some told) before after = (told ≡ r) × SaidRefusal r before after
+abbrev pub Tells : Result Done Refusal → Bool → List Event → Option Refusal → Output → Output → Type 0
+Tells (Ok done) is_asked journal None before after = Put before (done_lines done is_asked journal) after
+Tells (Ok done) is_asked journal (Some r) before after = (r ≡ refusal.ConsoleFault) × PutFront before (done_lines done is_asked journal) after
+Tells (Err r) is_asked journal None before after = ⊥
+Tells (Err r) is_asked journal (Some told) before after = (told ≡ r) × SaidRefusal r before after
 
--- what an answer says of the words, the shelf, the sink and the console: by what was written, or the refusal,
--- and by what the console got of it
-pub record Says (answer : Option Refusal) (words : List (List ℕ)) (shelf shelf_after : Store) (sink sink_after console console_after : Output) : Type 0 where
-  pub ended : Result ℕ Refusal
-  pub written : SaysWritten ended words shelf shelf_after sink sink_after
-  pub told : Tells ended answer console console_after
+-- what a run in one thread says of the words, the shelf, the output and the console: by how it ended, and by what the
+-- console got of it
+pub record Says (answer : Option Refusal) (words : List Bytes) (shelf shelf_after : Store) (before after console console_after : Output) : Type 0 where
+  pub ended : Result Done Refusal
+  pub says : SaysEnd ended (command_of words) shelf shelf_after before after
+  pub told : Tells ended false [] answer console console_after
+
+-- ---- a slice by many workers
+
+-- a slice was done by so many workers: its job is defined, the output holds exactly the file, and the journal is a full run
+pub record DidSlice (files : Files) (task : Task) (done : Done) (journal : List Event) (before after : Output) : Type 0 where
+  pub did : DidCommand (Ok (Slice task)) files done before after
+  pub full : IsFullRun (length did.job.layers) task.workers journal
+
+-- the output failed while a slice was written
+pub record FailedToSlice (files : Files) (task : Task) (journal : List Event) (before after : Output) : Type 0 where
+  pub failed : FailedToWrite (Ok (Slice task)) files before after
+  pub run : IsRun (length failed.job.layers) task.workers journal
+
+-- memory ran out while a slice was written
+pub record StoppedSlice (files : Files) (task : Task) (journal : List Event) (before after : Output) : Type 0 where
+  pub job : JobValue
+  pub defined : CommandGives (Ok (Slice task)) files (Ok job)
+  pub name : Bytes
+  pub named : task.out ≡ Some name
+  pub run : IsRun (length job.layers) task.workers journal
+  pub cut_short : CutShortWide name job journal before after
+
+-- a slice that was refused before the output was begun has no journal
+pub record RefusedSlice (task : Task) (r : Refusal) (shelf shelf_after : Store) (journal : List Event) (before after : Output) : Type 0 where
+  pub refused : RefusedBefore (Ok (Slice task)) r shelf shelf_after before after
+  pub nothing : journal ≡ []
+
+-- what the end of a slice says of the shelf, the journal and the output
+abbrev pub SaysSlice : Result Done Refusal → Task → List Event → Store → Store → Output → Output → Type 0
+SaysSlice (Ok done) task journal shelf shelf_after before after = DidSlice shelf.files task done journal before after
+SaysSlice (Err refusal.WriteFault) task journal shelf shelf_after before after = FailedToSlice shelf.files task journal before after
+SaysSlice (Err refusal.NoMemory) task journal shelf shelf_after before after =
+    RefusedSlice task refusal.NoMemory shelf shelf_after journal before after ⊎ StoppedSlice shelf.files task journal before after
+SaysSlice (Err r) task journal shelf shelf_after before after = RefusedSlice task r shelf shelf_after journal before after
+
+-- what the end of a command says: of a slice with its journal, of every other as in one thread and with none
+abbrev pub SaysWide : Result Done Refusal → Result Command WordFault → List Event → Store → Store → Output → Output → Type 0
+SaysWide ended (Ok (Slice task)) journal shelf shelf_after before after = SaysSlice ended task journal shelf shelf_after before after
+SaysWide ended command journal shelf shelf_after before after = SaysEnd ended command shelf shelf_after before after × (journal ≡ [])
+
+-- the words ask for the lines of the journal
+abbrev pub asks_journal : Result Command WordFault → Bool
+asks_journal (Ok (Slice task)) = task.journal
+asks_journal command = false
+
+-- what a run of many workers says of the words, the shelf, the output, the console and the journal
+pub record SaysAll (answer : Option Refusal) (words : List Bytes) (journal : List Event) (shelf shelf_after : Store) (before after console console_after : Output) : Type 0 where
+  pub ended : Result Done Refusal
+  pub says : SaysWide ended (command_of words) journal shelf shelf_after before after
+  pub told : Tells ended (asks_journal (command_of words)) journal answer console console_after

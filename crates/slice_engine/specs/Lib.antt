@@ -1,2 +1,7 @@
-pub mod Job
+pub mod Jobs
+pub mod Reads
+pub mod Files
+pub mod Done
+pub mod Journals
 pub mod Answers
+pub mod Inner

@@ -1,14 +1,23 @@
-// The top call: words and files go in, an answer, the file of the meshes' outlines and the console's line
-// come out. What words and files define is `JobGives` of `specs/Job.antt`, a job or its first refusal;
-// what an answer says of the shelf, the output and the console is `Says` of `specs/Answers.antt`.
+// The top calls: words and files go in; an answer, the file and the console's lines come out. What words and files
+// define is `JobGives` of `specs/Jobs.antt`, a job or its first refusal; what an answer says of the shelf, the output,
+// the console and the workers is `Says` and `SaysAll` of `specs/Answers.antt`.
 #![tactic(auto)]
 
-mod jobs;
+mod done;
+mod laws;
 mod planning;
+mod ringing;
+mod runs;
+mod slicing;
+mod still;
 mod telling;
 mod top;
+mod uses;
+mod wide;
+mod writing;
 
-pub use answers::{Refusal, Run};
-pub use jobs::Job;
-pub use planning::{one_job, plan_job};
-pub use top::still_top;
+pub use answers::Refusal;
+pub use done::Done;
+pub use laws::one_job;
+pub use runs::Run;
+pub use top::{slice_top, still_top};

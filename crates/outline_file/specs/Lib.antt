@@ -1,4 +1,0 @@
-pub mod Lines
-pub mod Layers
-pub mod Outline
-pub mod Written

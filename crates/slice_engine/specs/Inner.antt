@@ -1,0 +1,5 @@
+pub mod Plates
+pub mod Feeding
+pub mod Ringing
+pub mod Slicing
+pub mod Answered

@@ -1,0 +1,31 @@
+-- What the workers of a slice did, and what the output holds of it.
+use Rattle.std.specs.Prelude.{ℕ, ◌≡◌, ◌⊎◌, true, List, [], length, Some, None, Result, Ok, Err}
+use Rattle.slice_base.specs.Causes.{Rose, counted}
+use Rattle.slice_base.specs.Shapes.{Bytes}
+use Rattle.outside.specs.Holding.{GainedFront, emptied_of}
+use Rattle.outside.specs.Output.{Output}
+use Rattle.plan_types.specs.Jobs.{JobValue}
+use Rattle.ring_core.specs.declared.event.Event.{Event}
+use Rattle.ring_core.specs.Core.{IsRun, reached}
+use Rattle.ring_core.specs.Laws.{backs, IsWhole}
+use Rattle.slice_engine.specs.Files.{job_file, CutShort}
+
+-- a run that took all n layers: nobody is in turn and no cause is kept at its end, each layer was claimed, placed, taken
+-- and given back once, in rising order but for the placements
+pub record IsFullRun (n workers : ℕ) (journal : List Event) : Type 0 where
+  pub run : IsRun n workers journal
+  pub taken : (reached journal).taken ≡ n
+  pub free : (reached journal).holder ≡ None
+  pub calm : (reached journal).cause ≡ None
+  pub whole : IsWhole n journal
+
+-- memory ran out while workers planned: the output was begun once, under this name, and not ended; it holds a front of
+-- the file, and, unless a write failed too, exactly what is written once the plans that were given back were accepted
+pub record CutShortWide (name : Bytes) (job : JobValue) (journal : List Event) (before after : Output) : Type 0 where
+  pub front : GainedFront (emptied_of before.content) (job_file job) after.content
+  pub named : after.name ≡ Some name
+  pub begun : after.begun ≡ true
+  pub begins : after.begins ≡ counted before.begins
+  pub ends : after.ends ≡ before.ends
+  pub faults : (after.faults ≡ before.faults) ⊎ (after.faults ≡ counted before.faults)
+  pub exact : (Rose before.faults after.faults → ⊥) → CutShort name job (length (backs journal)) before after
