@@ -2,16 +2,17 @@
 use Rattle.std.specs.Prelude.{ℕ, ◌==◌, nat_lt, ◌&&◌, Bool, if◌then◌else◌, List, [], length, Option, Some, None, codes, slice_index_or}
 use Rattle.std.specs.Str.{bytes_eq}
 use Rattle.cura_slice.specs.declared.help.Topic.{Topic}
-use Rattle.cura_slice.specs.declared.help.Topic.TheVariants.{Usage, Settings, Version}
+use Rattle.cura_slice.specs.declared.help.Topic.TheVariants.{Usage, Settings, Messages, Version}
 
 -- there is a word at that place, from 0, and it is this text
 abbrev pub has_word : List (List ℕ) → ℕ → List ℕ → Bool
 has_word words k text = nat_lt k (length words) && bytes_eq (slice_index_or words k []) text
 
--- the words are `--help`, `--version` or `--help settings`, and no others
-abbrev pub topic_of : List (List ℕ) → Option Topic
-topic_of words =
+-- the words are `--help`, `--version`, `--help settings` or `--help messages`, and no others
+abbrev pub asked_of : List (List ℕ) → Option Topic
+asked_of words =
     if length words == 1 && has_word words 0 (codes "--help") then Some Usage
     else if length words == 1 && has_word words 0 (codes "--version") then Some Version
     else if length words == 2 && has_word words 0 (codes "--help") && has_word words 1 (codes "settings") then Some Settings
+    else if length words == 2 && has_word words 0 (codes "--help") && has_word words 1 (codes "messages") then Some Messages
     else None

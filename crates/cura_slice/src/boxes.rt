@@ -28,6 +28,15 @@ const FACETS: [[u8; 3]; 12] = [
     [2, 4, 6],
 ];
 
+// Corners in their order face outward.
+pub(crate) const OUTWARD: [usize; 3] = [0, 1, 2];
+
+// A plate of two layers.
+pub(crate) const PLATE: Block<'static> = Block {
+    low: ["90", "90", "0"],
+    high: ["110", "110", "0.5"],
+};
+
 impl Block<'_> {
     fn coordinate(&self, corner: u8, axis: usize) -> &str
         requires { axis < 3 }

@@ -33,9 +33,13 @@ fn the_table_has_a_setting_in_two_lines(rt: HostRuntime) -> Result<(), Fail> {
 }
 
 #[test]
-fn usage_and_version_are_told(rt: HostRuntime) -> Result<(), Fail> {
+fn usage_messages_and_version_are_told(rt: HostRuntime) -> Result<(), Fail> {
     let (status, console) = told(rt.alloc(), Topic::Usage, &[])?;
-    assert!(rt; status == 0 && has_line(console.bytes(), "  cura_slice --help [settings]"));
+    assert!(rt;
+        status == 0 && has_line(console.bytes(), "  cura_slice --help [settings | messages]")
+    );
+    let (status, console) = told(rt.alloc(), Topic::Messages, &[])?;
+    assert!(rt; status == 0 && has_line(console.bytes(), "error: too many layers: <n>"));
     let (status, console) = told(rt.alloc(), Topic::Version, &[])?;
     assert!(rt; status == 0 && has_line(console.bytes(), "cura_slice 0.1.0"));
     Ok(())

@@ -4,17 +4,25 @@
 
 #[cfg(test)]
 mod boxes;
+#[cfg(test)]
+mod file_tests;
+#[cfg(test)]
+mod gate_tests;
 mod help;
 #[cfg(test)]
 mod help_tests;
+#[cfg(test)]
+mod kind_tests;
 mod listing;
 #[cfg(test)]
-mod meshes;
+mod mesh_tests;
 #[cfg(test)]
-mod plates;
+mod preheat_tests;
+#[cfg(test)]
+mod refusal_tests;
 mod running;
 #[cfg(test)]
-mod tests;
+mod runs;
 mod words;
 
 use outside::{DirShelf, FileSink, OutSink};
@@ -28,6 +36,6 @@ fn main(rt: HostRuntime) -> ExitCode {
     let mut shelf = DirShelf::of(&rt);
     let sink = FileSink::of(&rt);
     let mut console = OutSink::of(io::writer(&rt));
-    let (status, _sink) = run(rt.alloc(), words, &mut shelf, sink, &mut console);
+    let (status, _sink) = run(&rt, rt.alloc(), words, &mut shelf, sink, &mut console);
     ExitCode::from(status)
 }

@@ -1,27 +1,34 @@
 // What the program does with its words.
 
 ghost use Rattle.std.specs.Prelude.{map, string_bytes, IfOk, IfErr};
-ghost use Rattle.cura_slice.specs.Help.{topic_of};
+ghost use Rattle.cura_slice.specs.Help.{asked_of};
 ghost use Rattle.cura_slice.specs.Running.{ToldRefusal, DidWords};
 
 use crate::help::{asked, tell};
 use crate::words::refuse;
 use answers::Refusal;
-use outside::{Shelf, Sink};
-use slice_engine::still_top;
+use outside::{NoGate, Shelf, Sink};
+use slice_engine::slice_top;
 use std::alloc::Global;
+use std::sync::Wait;
+use std::thread::Threads;
 
 /// Tells what the words ask of the program itself; where they ask nothing of it, does their job. Where there
-/// are no words, tells why. The answer is the program's status, and the sink is handed back.
-pub fn run<Sh: Shelf, Si: Sink, Co: Sink>(
+/// are no words, tells why. The answer is the program's status, and the sink is handed back. A `slice` waits for
+/// its workers.
+pub fn run<Sh: Shelf, Si: Sink + Send, Co: Sink, R: Threads + Wait + Sync>(
+    rt: &R,
     alloc: Global,
     words: Result<Vec<String>, Refusal>,
     shelf: &mut Sh,
     sink: Si,
     console: &mut Co,
 ) -> (u8, Si)
-    ensures did { IfOk words (λ ws. DidWords (topic_of (map string_bytes ws.items)) (map string_bytes ws.items) result.0 (Sh.store shelf.old) (Sh.store shelf.new) (Si.output sink) (Si.output result.1) (Co.output console.old) (Co.output console.new)) }
-    ensures refused { IfErr words (λ r. ToldRefusal r result.0 (Sh.store shelf.old) (Sh.store shelf.new) (Si.output sink) (Si.output result.1) (Co.output console.old) (Co.output console.new)) }
+    ensures did { IfOk words (λ ws. DidWords (asked_of (map string_bytes ws.items)) (map string_bytes ws.items) result.0
+        (Sh.store shelf.old) (Sh.store shelf.new) (Si.output sink) (Si.output result.1)
+        (Co.output console.old) (Co.output console.new)) }
+    ensures refused { IfErr words (λ r. ToldRefusal r result.0 (Sh.store shelf.old) (Sh.store shelf.new)
+        (Si.output sink) (Si.output result.1) (Co.output console.old) (Co.output console.new)) }
 {
     let words = match words {
         Ok(words) => words,
@@ -30,6 +37,6 @@ pub fn run<Sh: Shelf, Si: Sink, Co: Sink>(
     if let Some(topic) = asked(words.as_slice()) {
         return (tell(alloc, topic, console), sink);
     }
-    let (run, sink) = still_top(alloc, words.as_slice(), shelf, sink, console);
+    let (run, sink) = slice_top(rt, alloc, words.as_slice(), shelf, sink, console, &NoGate);
     (run.status, sink)
 }

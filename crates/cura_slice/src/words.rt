@@ -2,11 +2,11 @@
 
 ghost use Rattle.std.specs.Prelude.{◌≡◌, ◌⊎◌, ◌≤◌, ℕ, List, Option, map, string_bytes, IfOk, IfErr};
 ghost use Rattle.outside.specs.Output.{Put, PutFront};
-ghost use Rattle.answers.specs.Said.{said_refusal};
+ghost use Rattle.answers.specs.Lines.{refusal_line};
 ghost use Rattle.answers.specs.Statuses.{status_in};
 ghost use Rattle.cura_slice.specs.Words.{IsWord, AreWords, WhyNoWords};
 
-use answers::{Refusal, Run, put_refusal};
+use answers::{Refusal, put_refusal, status};
 use outside::Sink;
 use slice_base::{NoMemory, Text};
 use std::alloc::Global;
@@ -16,10 +16,11 @@ use std::env::{Env, FillError};
 /// console.
 pub fn refuse<Co: Sink>(refusal: Refusal, console: &mut Co) -> u8
     ensures status { result ≡ status_in refusal }
-    ensures told { Put (Co.output console.old) (said_refusal refusal) (Co.output console.new) ⊎ PutFront (Co.output console.old) (said_refusal refusal) (Co.output console.new) }
+    ensures told { Put (Co.output console.old) (refusal_line refusal) (Co.output console.new)
+        ⊎ PutFront (Co.output console.old) (refusal_line refusal) (Co.output console.new) }
 {
     let _ = put_refusal(console, &refusal);
-    Run::of(Some(refusal)).status
+    status(&Some(refusal))
 }
 
 /// A command line.

@@ -1,0 +1,136 @@
+// The whole file of a small block, with each kind of line: skirt, inner and outer walls, skin below and above, and
+// infill between; three layers, of which two are slowed down.
+
+use crate::boxes::{Block, OUTWARD};
+use crate::runs::{run, with_files};
+use std::test::Fail;
+
+const BLOCK: Block<'static> = Block {
+    low: ["50", "50", "0"],
+    high: ["54", "53", "0.7"],
+};
+
+const SETTINGS: &[u8] = br#"{
+  "version": 2,
+  "global": { "skirt_gap": 1, "cool_min_layer_time": 1 },
+  "extruders": [ { "retraction_amount": 1 } ],
+  "meshes": [ { "bottom_layers": 1, "top_layers": 1, "infill_line_distance": 1, "z_seam_type": "back" } ]
+}"#;
+
+// Given by a second program that was written from the rules alone.
+const BLOCK_FILE: &[u8] = b";FLAVOR:Marlin
+;OPEN_OUTLINES:0
+M140 S60
+M104 T0 S210
+M190 S60
+M109 T0 S210
+G28
+G21
+G90
+M82
+T0
+G92 E0
+M107
+;LAYER_COUNT:3
+;LAYER:0
+G1 F1500.000 E-1.00000
+G0 F7200.000 X48.800 Y48.800 Z0.300
+G1 F1500.000 E0.00000
+;TYPE:SKIRT
+G1 F3600.000 X55.200 Y48.800 E0.31930
+G1 X55.200 Y54.200 E0.58870
+G1 X48.800 Y54.200 E0.90800
+G1 X48.800 Y48.800 E1.17741
+G1 F1500.000 E0.17741
+G0 F7200.000 X50.600 Y52.400
+G1 F1500.000 E1.17741
+;TYPE:WALL-INNER
+G1 F3600.000 X50.600 Y50.600 E1.26721
+G1 X53.400 Y50.600 E1.40690
+G1 X53.400 Y52.400 E1.49671
+G1 X50.600 Y52.400 E1.63640
+G0 F7200.000 X50.200 Y52.800
+;TYPE:WALL-OUTER
+G1 F1800.000 X50.200 Y50.200 E1.76611
+G1 X53.800 Y50.200 E1.94572
+G1 X53.800 Y52.800 E2.07543
+G1 X50.200 Y52.800 E2.25504
+G0 F7200.000 X50.800 Y52.000
+;TYPE:SKIN
+G1 F1800.000 X53.200 Y52.000 E2.37477
+G0 F7200.000 X53.200 Y51.600
+G1 F1800.000 X50.800 Y51.600 E2.49451
+G0 F7200.000 X50.800 Y51.200
+G1 F1800.000 X53.200 Y51.200 E2.61425
+G0 F7200.000 X53.200 Y50.800
+G1 F1800.000 X50.800 Y50.800 E2.73398
+;TIME_ELAPSED:2.071714
+;LAYER:1
+M106 S255
+G1 F1500.000 E1.73398
+G0 F7200.000 X50.600 Y52.400 Z0.500
+G1 F1500.000 E2.73398
+;TYPE:WALL-INNER
+G1 F2330.340 X50.600 Y50.600 E2.79385
+G1 X53.400 Y50.600 E2.88698
+G1 X53.400 Y52.400 E2.94685
+G1 X50.600 Y52.400 E3.03998
+G0 F7200.000 X50.200 Y52.800
+;TYPE:WALL-OUTER
+G1 F1165.140 X50.200 Y50.200 E3.12645
+G1 X53.800 Y50.200 E3.24619
+G1 X53.800 Y52.800 E3.33267
+G1 X50.200 Y52.800 E3.45240
+G0 F7200.000 X51.022 Y52.200
+;TYPE:FILL
+G1 F2330.340 X52.422 Y50.800 E3.51826
+G0 F7200.000 X53.200 Y51.436
+G1 F2330.340 X52.436 Y52.200 E3.55418
+G1 F1500.000 E2.55418
+G0 F7200.000 X51.008 Y50.800
+G1 F1500.000 E3.55418
+G1 F2330.340 X50.800 Y51.008 E3.56396
+;TIME_ELAPSED:3.245179
+;LAYER:2
+G1 F1500.000 E2.56396
+G0 F7200.000 X50.600 Y52.400 Z0.700
+G1 F1500.000 E3.56396
+;TYPE:WALL-INNER
+G1 F3267.300 X50.600 Y50.600 E3.62382
+G1 X53.400 Y50.600 E3.71695
+G1 X53.400 Y52.400 E3.77682
+G1 X50.600 Y52.400 E3.86995
+G0 F7200.000 X50.200 Y52.800
+;TYPE:WALL-OUTER
+G1 F1633.620 X50.200 Y50.200 E3.95643
+G1 X53.800 Y50.200 E4.07616
+G1 X53.800 Y52.800 E4.16264
+G1 X50.200 Y52.800 E4.28238
+G0 F7200.000 X50.800 Y52.000
+;TYPE:SKIN
+G1 F1633.620 X53.200 Y52.000 E4.36220
+G0 F7200.000 X53.200 Y51.600
+G1 F1633.620 X50.800 Y51.600 E4.44202
+G0 F7200.000 X50.800 Y51.200
+G1 F1633.620 X53.200 Y51.200 E4.52185
+G0 F7200.000 X53.200 Y50.800
+G1 F1633.620 X50.800 Y50.800 E4.60167
+;TIME_ELAPSED:4.336921
+M104 T0 S0
+M140 S0
+M107
+M84
+";
+
+#[test]
+fn each_kind_of_line_stands_in_its_place(rt: HostRuntime) -> Result<(), Fail> {
+    let block = BLOCK.text(rt.alloc(), None, OUTWARD)?;
+    let files = [("block.stl", block.as_bytes()), ("block.json", SETTINGS)];
+    for command in ["serial", "slice -m2"] {
+        let lines = [command, "-j block.json -l block.stl -o block.gcode"];
+        let ended = run(&rt, rt.alloc(), &lines, with_files(&files))?;
+        assert!(rt; ended.is_done(b"sliced 3 layers\n"), "{command}");
+        assert!(rt; ended.sink.bytes() == BLOCK_FILE, "{command}");
+    }
+    Ok(())
+}
