@@ -135,9 +135,8 @@ fn each_write_that_fails_leaves_the_lines_before_it(rt: HostRuntime) -> Result<(
     for command in ["serial", "slice -m2"] {
         let mut held = Vec::new(rt.alloc());
         for call in 1..42u32 {
-            let failing = [call];
             let mut outside = with_files(&files);
-            outside.failing_writes = &failing;
+            outside.failing_write = Some(call);
             let lines = [command, "-o plate.gcode", ONE_WALL, "-l plate.stl"];
             let ended = run(&rt, rt.alloc(), &lines, outside)?;
             assert!(rt; ended.run.status == 5, "call {call}");
@@ -165,9 +164,12 @@ fn a_plate_in_other_words_is_the_same_print(rt: HostRuntime) -> Result<(), Fail>
     let outward = PLATE.text(rt.alloc(), None, OUTWARD)?;
     let empty: &[u8] = b"\r\n SOLID of nothing\n\tEndSolid\n";
     let parts = joined(rt.alloc(), &[empty, outward.as_bytes()])?;
-    for mesh in [inward.as_bytes(), parts.as_slice()] {
-        let files = [("plate.stl", mesh)];
-        let lines = ["serial -o plate.gcode", ONE_WALL, "-l plate.stl"];
+    let files = [
+        ("inward.stl", inward.as_bytes()),
+        ("parts.stl", parts.as_slice()),
+    ];
+    for mesh in ["-l inward.stl", "-l parts.stl"] {
+        let lines = ["serial -o plate.gcode", ONE_WALL, mesh];
         let ended = run(&rt, rt.alloc(), &lines, with_files(&files))?;
         assert!(rt; ended.sink.bytes() == PLATE_FILE);
     }

@@ -134,7 +134,11 @@ fn an_extruder_is_heated_as_late_as_its_rate_allows(rt: HostRuntime) -> Result<(
 }
 
 // A plate 2 mm above another, with that setting: layers 2 to 9 are empty.
-fn stacked<R: Threads + Wait + Sync>(rt: &R, alloc: Global, setting: &str) -> Result<Ended, Fail> {
+fn stacked<R: Threads + Wait + Sync>(
+    rt: &R,
+    alloc: Global,
+    setting: &'static str,
+) -> Result<Ended, Fail> {
     let plate = PLATE.text(alloc, None, OUTWARD)?;
     let files = [("plate.stl", plate.as_bytes())];
     let lines = [

@@ -175,9 +175,8 @@ fn a_failing_read_names_its_file(rt: HostRuntime) -> Result<(), Fail> {
         (3, b"error: cannot read b\n"),
     ] {
         for command in ["serial", "slice -m2", "check"] {
-            let failing = [call];
             let mut outside = with_files(&files);
-            outside.failing_reads = &failing;
+            outside.failing_read = Some(call);
             let lines = [command, "-l a -j s -l b -o o"];
             let ended = run(&rt, rt.alloc(), &lines, outside)?;
             assert!(rt;
@@ -202,7 +201,7 @@ fn a_failing_console_is_told_only_where_all_else_was_done(rt: HostRuntime) -> Re
         ("serial", 1, 0),
     ] {
         let outside = Outside {
-            failing_lines: &[1],
+            failing_line: Some(1),
             ..with_files(&files)
         };
         let ended = run(

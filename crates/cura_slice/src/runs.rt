@@ -8,16 +8,16 @@ use std::sync::Wait;
 use std::test::Fail;
 use std::thread::Threads;
 
-// What a run works with: files, how many bytes the sink takes a put and has room for, and the calls that fail,
-// counted from 1.
+// What a run works with: files, how many bytes the sink takes a put and has room for, and the call of each that
+// fails, counted from 1.
 #[derive(Clone, Copy)]
 pub(crate) struct Outside<'a> {
     pub(crate) files: &'a [(&'a str, &'a [u8])],
     pub(crate) most: usize,
     pub(crate) room: usize,
-    pub(crate) failing_reads: &'a [u32],
-    pub(crate) failing_writes: &'a [u32],
-    pub(crate) failing_lines: &'a [u32],
+    pub(crate) failing_read: Option<u32>,
+    pub(crate) failing_write: Option<u32>,
+    pub(crate) failing_line: Option<u32>,
 }
 
 // Where nothing fails.
@@ -26,9 +26,9 @@ pub(crate) fn with_files<'a>(files: &'a [(&'a str, &'a [u8])]) -> Outside<'a> {
         files,
         most: 1000,
         room: 4_000_000,
-        failing_reads: &[],
-        failing_writes: &[],
-        failing_lines: &[],
+        failing_read: None,
+        failing_write: None,
+        failing_line: None,
     }
 }
 
@@ -58,6 +58,14 @@ fn words_of(alloc: Global, lines: &[&str]) -> Result<Vec<String>, Fail> {
     Ok(words)
 }
 
+fn calls_of(alloc: Global, failing: Option<u32>) -> Result<Vec<u32>, Fail> {
+    let mut calls = Vec::new(alloc);
+    if let Some(call) = failing {
+        calls.push(call)?;
+    }
+    Ok(calls)
+}
+
 fn shelf_of(alloc: Global, outside: Outside) -> Result<MemShelf, Fail> {
     let mut files = Vec::new(alloc);
     for (name, bytes) in outside.files {
@@ -66,7 +74,7 @@ fn shelf_of(alloc: Global, outside: Outside) -> Result<MemShelf, Fail> {
             Vec::from_slice(alloc, bytes)?,
         ))?;
     }
-    Ok(MemShelf::of(files, Vec::from_slice(alloc, outside.failing_reads)?))
+    Ok(MemShelf::of(files, calls_of(alloc, outside.failing_read)?))
 }
 
 // A run whose workers pass a gate.
@@ -79,9 +87,9 @@ pub(crate) fn run_past<R: Threads + Wait + Sync, G: Gate + Sync>(
 ) -> Result<Ended, Fail> {
     let words = words_of(alloc, lines)?;
     let mut shelf = shelf_of(alloc, outside)?;
-    let failing = Vec::from_slice(alloc, outside.failing_writes)?;
+    let failing = calls_of(alloc, outside.failing_write)?;
     let sink = MemSink::of(alloc, outside.most.max(1), outside.room, failing)?;
-    let failing = Vec::from_slice(alloc, outside.failing_lines)?;
+    let failing = calls_of(alloc, outside.failing_line)?;
     let mut console = MemSink::of(alloc, 1000, 100_000, failing)?;
     let (run, sink) = slice_top(
         rt,
