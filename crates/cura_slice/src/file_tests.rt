@@ -1,7 +1,7 @@
 // The file of a plate of two layers with one wall, whole.
 
 use crate::boxes::{OUTWARD, PLATE};
-use crate::runs::{has, joined, run, with_files};
+use crate::runs::{has, run, with_files};
 use std::test::Fail;
 
 // One wall, and nothing else.
@@ -157,21 +157,24 @@ fn each_write_that_fails_leaves_the_lines_before_it(rt: HostRuntime) -> Result<(
     Ok(())
 }
 
-// Facets that face inward, or stand in two solids, give the same print.
 #[test]
-fn a_plate_in_other_words_is_the_same_print(rt: HostRuntime) -> Result<(), Fail> {
+fn facets_that_face_inward_are_the_same_print(rt: HostRuntime) -> Result<(), Fail> {
     let inward = PLATE.text(rt.alloc(), None, [0, 2, 1])?;
-    let outward = PLATE.text(rt.alloc(), None, OUTWARD)?;
-    let empty: &[u8] = b"\r\n SOLID of nothing\n\tEndSolid\n";
-    let parts = joined(rt.alloc(), &[empty, outward.as_bytes()])?;
-    let files = [
-        ("inward.stl", inward.as_bytes()),
-        ("parts.stl", parts.as_slice()),
-    ];
-    for mesh in ["-l inward.stl", "-l parts.stl"] {
-        let lines = ["serial -o plate.gcode", ONE_WALL, mesh];
-        let ended = run(&rt, rt.alloc(), &lines, with_files(&files))?;
-        assert!(rt; ended.sink.bytes() == PLATE_FILE);
-    }
+    let files = [("plate.stl", inward.as_bytes())];
+    let lines = ["serial -o plate.gcode", ONE_WALL, "-l plate.stl"];
+    let ended = run(&rt, rt.alloc(), &lines, with_files(&files))?;
+    assert!(rt; ended.sink.bytes() == PLATE_FILE);
+    Ok(())
+}
+
+#[test]
+fn a_mesh_in_two_solids_is_the_same_print(rt: HostRuntime) -> Result<(), Fail> {
+    let plate = PLATE.text(rt.alloc(), None, OUTWARD)?;
+    let mut solids = String::from_str(rt.alloc(), "\r\n SOLID of nothing\n\tEndSolid\n")?;
+    solids.push_str(plate.as_str())?;
+    let files = [("plate.stl", solids.as_bytes())];
+    let lines = ["serial -o plate.gcode", ONE_WALL, "-l plate.stl"];
+    let ended = run(&rt, rt.alloc(), &lines, with_files(&files))?;
+    assert!(rt; ended.sink.bytes() == PLATE_FILE);
     Ok(())
 }

@@ -2,11 +2,8 @@
 
 use crate::boxes::{Block, OUTWARD, PLATE};
 use crate::file_tests::ONE_WALL;
-use crate::runs::{Ended, has, joined, run, with_files};
-use std::alloc::Global;
-use std::sync::Wait;
+use crate::runs::{has, joined, run, with_files};
 use std::test::Fail;
-use std::thread::Threads;
 
 // A plate 30 mm beside the other.
 const BESIDE: Block<'static> = Block {
@@ -133,28 +130,16 @@ fn an_extruder_is_heated_as_late_as_its_rate_allows(rt: HostRuntime) -> Result<(
     Ok(())
 }
 
-// A plate 2 mm above another, with that setting: layers 2 to 9 are empty.
-fn stacked<R: Threads + Wait + Sync>(
-    rt: &R,
-    alloc: Global,
-    setting: &'static str,
-) -> Result<Ended, Fail> {
-    let plate = PLATE.text(alloc, None, OUTWARD)?;
-    let files = [("plate.stl", plate.as_bytes())];
-    let lines = [
-        "slice -o g -s machine_extruder_count=2",
-        ONE_WALL,
-        setting,
-        "-l plate.stl -e1 -l plate.stl -s mesh_position_z=2",
-    ];
-    run(rt, alloc, &lines, with_files(&files))
-}
+// A plate 2 mm above another: layers 2 to 9 are empty.
+const STACKED: &str = "-l plate.stl -e1 -l plate.stl -s mesh_position_z=2";
 
 #[test]
 fn an_extruder_is_heated_within_the_window(rt: HostRuntime) -> Result<(), Fail> {
     let early: &[u8] = b"\n;LAYER:10\nM104 T0 S150\nT1\nM109 T1 S210\n";
     let at_its_turn: &[u8] = b"\n;LAYER:10\nM104 T0 S150\nM104 T1 S210\nT1\nM109 T1 S210\nG92 E0\n\
         G1 F1500.000 E-6.50000\nG0 F7200.000 X90.200 Y90.200 Z2.300\n";
+    let plate = PLATE.text(rt.alloc(), None, OUTWARD)?;
+    let files = [("plate.stl", plate.as_bytes())];
     for (setting, heated, turn) in [
         ("", at_its_turn, at_its_turn),
         ("-s preheat_window_layers=5", at_its_turn, at_its_turn),
@@ -169,7 +154,13 @@ fn an_extruder_is_heated_within_the_window(rt: HostRuntime) -> Result<(), Fail> 
             early,
         ),
     ] {
-        let ended = stacked(&rt, rt.alloc(), setting)?;
+        let lines = [
+            "slice -o g -s machine_extruder_count=2",
+            ONE_WALL,
+            setting,
+            STACKED,
+        ];
+        let ended = run(&rt, rt.alloc(), &lines, with_files(&files))?;
         assert!(rt; ended.is_done(b"sliced 12 layers\n"), "{setting}");
         let file = ended.sink.bytes();
         assert!(rt; has(file, heated) && has(file, turn), "{setting}");
@@ -181,7 +172,13 @@ fn an_extruder_is_heated_within_the_window(rt: HostRuntime) -> Result<(), Fail> 
         );
     }
     for setting in ["-s preheat_window_layers=0", "-s preheat_window_layers=17"] {
-        let ended = stacked(&rt, rt.alloc(), setting)?;
+        let lines = [
+            "slice -o g -s machine_extruder_count=2",
+            ONE_WALL,
+            setting,
+            STACKED,
+        ];
+        let ended = run(&rt, rt.alloc(), &lines, with_files(&files))?;
         let told: &[u8] = b"error: out of range: global preheat_window_layers\n";
         assert!(rt; ended.run.status == 2 && ended.console.bytes() == told);
     }
