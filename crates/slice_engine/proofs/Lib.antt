@@ -3,7 +3,9 @@ pub mod Samples
 pub mod Streams
 pub mod Plates
 pub mod UseCounts
+pub mod Switching
 pub mod Endings
 pub mod Rings
 pub mod RingEnds
 pub mod WideEndings
+pub mod RunTotals

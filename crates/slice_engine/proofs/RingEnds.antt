@@ -17,7 +17,7 @@ use Rattle.plan_buffer.specs.Accepted.{Past, HasAccepted, Finished, BrokeOff}
 use Rattle.slice_engine.specs.declared.writing.Stop.{Stop}
 use Rattle.slice_engine.specs.declared.writing.Stop.TheVariants.{Memory, Write}
 use Rattle.slice_engine.specs.Files.{job_file, job_text, BrokenOff, CutShort}
-use Rattle.slice_engine.specs.Journals.{IsFullRun, CutShortWide}
+use Rattle.slice_engine.specs.Journals.{IsFullRun, RanToFailure, RanOutOfMemory, CutShortWide}
 use Rattle.slice_engine.specs.Inner.Feeding.{past_of, Flushed, fed_by}
 use Rattle.slice_engine.specs.Inner.Ringing.{FeederValue, HasFed}
 use Rattle.slice_engine.specs.Inner.Slicing.{WroteWide}
@@ -96,7 +96,7 @@ all_fed : {S : Type 0} (output : S → Output) (f : FeederValue S) (workers n : 
 all_fed output f workers n events (Ok t) sink all full flushed =
     (subst (λ (k : ℕ). IsFullRun k workers events) all full, subst (λ (file : Bytes). Finished f.name file (output f.before) (output sink)) (file_of_all f.job n all) flushed)
 all_fed output f workers n events (Err Write) sink all full flushed =
-    (subst (λ (k : ℕ). IsRun k workers events) all full.run, broke_off_last f.job f.name (output f.before) (output sink) (subst (λ (file : Bytes). BrokeOff f.name file (output f.before) (output sink)) (file_of_all f.job n all) flushed))
+    (record { run = subst (λ (k : ℕ). IsRun k workers events) all full.run; cause = inr (inr (subst (λ (k : ℕ). IsFullRun k workers events) all full)) }, broke_off_last f.job f.name (output f.before) (output sink) (subst (λ (file : Bytes). BrokeOff f.name file (output f.before) (output sink)) (file_of_all f.job n all) flushed))
 all_fed output f workers n events (Err Memory) sink all full flushed = absurd flushed
 
 -- what a ring left: the run, the feeder, and what became of its sink
@@ -137,14 +137,19 @@ ended_case output f workers n start events (Some cause.Memory) wrote sink rests 
     let few : length (backs events) ≤ length f.job.layers = subst (λ (k : ℕ). length (backs events) ≤ k) e.all kept.0 in
     short_at output f (length (backs events)) rests e.fed.job_is few kept.1 in
     stop_wide output f workers n events Memory wrote sink e.all (e.stopped Memory refl)
-    (subst (λ (k : ℕ). IsRun k workers events) e.all e.run, short_case output f f.buffer.pen.failed events refl rests fronts e.fed s exact)
+    (record { run = subst (λ (k : ℕ). IsRun k workers events) e.all e.run; cause = inr (sym e.halted_is) }, short_case output f f.buffer.pen.failed events refl rests fronts e.fed s exact)
 ended_case output f workers n start events (Some (cause.Write k)) wrote sink rests fronts wholes e =
     let s = streamed_at output f.job f.name (output f.before) e.fed.count f.buffer rests e.fed.job_is e.fed.few e.fed.accepted in
     let write = e.write k (sym e.halted_is) in
     let rose : Rose (output f.before).faults (output f.buffer.pen.sink).faults =
     subst (λ (a : ℕ). Rose a (output f.buffer.pen.sink).faults) e.start_is (subst (λ (b : ℕ). Rose start b) (sym write.0) write.1) in
-    stop_wide output f workers n events Write wrote sink e.all (e.stopped Write refl)
-    (subst (λ (m : ℕ). IsRun m workers events) e.all e.run, broken_case output f f.buffer.pen.failed refl rests fronts e.fits rose e.fed s)
+    stop_wide output f workers n events Write wrote sink e.all (e.stopped Write refl) (
+      record {
+        run = subst (λ (m : ℕ). IsRun m workers events) e.all e.run;
+        cause = inr (inl (subst (λ (m : ℕ). (reached events).cause ≡ Some (cause.Write m)) (sym write.0) (sym e.halted_is)));
+      },
+      broken_case output f f.buffer.pen.failed refl rests fronts e.fits rose e.fed s,
+    )
 
 -- the end of a ring, by the names of its parts
 pub ended_wide : {S : Type 0} (output : S → Output) (f : FeederValue S) (job : JobValue) (name : Bytes) (before : S) (workers n start : ℕ) (events journal : List Event) (halted : Option Cause) (wrote : Result (Unit {0}) Stop) (sink : S)
@@ -160,7 +165,7 @@ ended_wide output f job name before workers n start events journal halted wrote 
 -- a ring that was never made: nothing was planned
 pub unmade_wide : {S : Type 0} (output : S → Output) (f : FeederValue S) (job : JobValue) (name : Bytes) (before : S) (workers : ℕ) (journal : List Event) (sink : S)
     → RestsOnPlans → f.job ≡ job → f.name ≡ name → f.before ≡ before → journal ≡ [] → sink ≡ f.buffer.pen.sink → f.buffer.job ≡ f.job → WritesFronts → IsAt output f 0
-    → IsRun (length job.layers) workers journal × CutShortWide name job journal (output before) (output sink)
+    → RanOutOfMemory (length job.layers) workers journal × CutShortWide name job journal (output before) (output sink)
 unmade_wide output f job name before workers journal sink rests job_is name_is before_is journal_is sink_is same fronts at =
     let none : 0 ≤ length f.job.layers = omega arith in
     let c : CutShort f.name f.job 0 (output f.before) (output f.buffer.pen.sink) = short_at output f 0 rests same none at in
@@ -178,4 +183,4 @@ unmade_wide output f job name before workers journal sink rests job_is name_is b
     let h2 : CutShortWide name job [] (output f.before) (output f.buffer.pen.sink) = subst (λ (m : Bytes). CutShortWide m job [] (output f.before) (output f.buffer.pen.sink)) name_is h1 in
     let h3 : CutShortWide name job [] (output before) (output f.buffer.pen.sink) = subst (λ (b : _). CutShortWide name job [] (output b) (output f.buffer.pen.sink)) before_is h2 in
     let h4 : CutShortWide name job [] (output before) (output sink) = subst (λ (s : _). CutShortWide name job [] (output before) (output s)) (sym sink_is) h3 in
-    (subst (λ (es : List Event). IsRun (length job.layers) workers es) (sym journal_is) tt, subst (λ (es : List Event). CutShortWide name job es (output before) (output sink)) (sym journal_is) h4)
+    (record { run = subst (λ (es : List Event). IsRun (length job.layers) workers es) (sym journal_is) tt; cause = inl journal_is }, subst (λ (es : List Event). CutShortWide name job es (output before) (output sink)) (sym journal_is) h4)

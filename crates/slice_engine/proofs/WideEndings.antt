@@ -21,6 +21,7 @@ use Rattle.slice_engine.specs.Reads.{read_faults}
 use Rattle.slice_engine.specs.Inner.Answered.{refusal_in}
 use Rattle.slice_engine.specs.Answers.{HoldsFile, SaysEnd, SaysWide, SaysSlice, Tells, WriteFaultsWide, write_faults}
 use Rattle.slice_engine.specs.Files.{job_file}
+use Rattle.slice_engine.specs.Totals.{totals_of}
 use Rattle.slice_engine.specs.Inner.Feeding.{stop_refusal}
 use Rattle.slice_engine.specs.Inner.Slicing.{WroteWide}
 
@@ -28,7 +29,7 @@ use Rattle.slice_engine.specs.Inner.Slicing.{WroteWide}
 
 -- a slice that was written to its end
 pub sliced : (task : Task) (shelf shelf_after : Store) (journal : List Event) (job : JobValue) (name : Bytes) (before after : Output) → CommandGives (Ok (Slice task)) shelf.files (Ok job) → task.out ≡ Some name
-    → WroteWide (Ok tt) journal job task.workers name before after → SaysSlice (Ok (Sliced (length job.layers))) task journal shelf shelf_after before after
+    → WroteWide (Ok tt) journal job task.workers name before after → SaysSlice (Ok (Sliced (totals_of job))) task journal shelf shelf_after before after
 sliced task shelf shelf_after journal job name before after g named w = record {
   did = record {
     job = job;
@@ -42,8 +43,8 @@ sliced task shelf shelf_after journal job name before after g named w = record {
 -- a slice that wasn't
 pub slice_stopped : (task : Task) (shelf shelf_after : Store) (journal : List Event) (job : JobValue) (name : Bytes) (before after : Output) (stop : Stop) → CommandGives (Ok (Slice task)) shelf.files (Ok job) → task.out ≡ Some name
     → WroteWide (Err stop) journal job task.workers name before after → SaysSlice (Err (stop_refusal stop)) task journal shelf shelf_after before after
-slice_stopped task shelf shelf_after journal job name before after Write g named w = record { failed = record { job = job; defined = g; name = name; named = named; broken_off = w.1 }; run = w.0 }
-slice_stopped task shelf shelf_after journal job name before after Memory g named w = inr (record { job = job; defined = g; name = name; named = named; run = w.0; cut_short = w.1 })
+slice_stopped task shelf shelf_after journal job name before after Write g named w = record { failed = record { job = job; defined = g; name = name; named = named; broken_off = w.1 }; ran = w.0 }
+slice_stopped task shelf shelf_after journal job name before after Memory g named w = inr (record { job = job; defined = g; name = name; named = named; ran = w.0; cut_short = w.1 })
 
 -- its sink failed once at most
 pub slice_writes : (journal : List Event) (job : JobValue) (workers : ℕ) (name : Bytes) (before after : Output) (stop : Stop) → WroteWide (Err stop) journal job workers name before after

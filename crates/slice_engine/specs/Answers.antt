@@ -15,13 +15,12 @@ use Rattle.cli_words.specs.Command.{command_of}
 use Rattle.plan_types.specs.Jobs.{JobValue}
 use Rattle.plan_buffer.specs.Accepted.{Finished}
 use Rattle.ring_core.specs.declared.event.Event.{Event}
-use Rattle.ring_core.specs.Core.{IsRun}
 use Rattle.slice_engine.specs.declared.done.Done.{Done}
 use Rattle.slice_engine.specs.Jobs.{Files, CommandGives}
 use Rattle.slice_engine.specs.Reads.{SaysDefined, HasFailedRead}
 use Rattle.slice_engine.specs.Files.{job_file, BrokenOff, CutShort}
 use Rattle.slice_engine.specs.Done.{IsDone, done_text, journal_text}
-use Rattle.slice_engine.specs.Journals.{IsFullRun, CutShortWide}
+use Rattle.slice_engine.specs.Journals.{IsFullRun, RanToFailure, RanOutOfMemory, CutShortWide}
 
 -- the name of the file that a command writes, where it writes one
 abbrev pub output_of : Result Command WordFault → Option Bytes
@@ -118,18 +117,18 @@ pub record DidSlice (files : Files) (task : Task) (done : Done) (journal : List 
   pub did : DidCommand (Ok (Slice task)) files done before after
   pub full : IsFullRun (length did.job.layers) task.workers journal
 
--- the output failed while a slice was written
+-- the output failed while a slice was written, and the journal tells where
 pub record FailedToSlice (files : Files) (task : Task) (journal : List Event) (before after : Output) : Type 0 where
   pub failed : FailedToWrite (Ok (Slice task)) files before after
-  pub run : IsRun (length failed.job.layers) task.workers journal
+  pub ran : RanToFailure (length failed.job.layers) task.workers journal after.faults
 
--- memory ran out while a slice was written
+-- memory ran out while a slice was written, and the journal tells where
 pub record StoppedSlice (files : Files) (task : Task) (journal : List Event) (before after : Output) : Type 0 where
   pub job : JobValue
   pub defined : CommandGives (Ok (Slice task)) files (Ok job)
   pub name : Bytes
   pub named : task.out ≡ Some name
-  pub run : IsRun (length job.layers) task.workers journal
+  pub ran : RanOutOfMemory (length job.layers) task.workers journal
   pub cut_short : CutShortWide name job journal before after
 
 -- a slice that was refused before the output was begun has no journal

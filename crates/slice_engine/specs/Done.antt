@@ -5,6 +5,7 @@ use Rattle.slice_base.specs.Causes.{counted}
 use Rattle.slice_base.specs.Shapes.{Bytes}
 use Rattle.outside.specs.Pens.{bytes_after}
 use Rattle.answers.specs.declared.lines.Generated.{Generated}
+use Rattle.answers.specs.declared.refusal.Refusal.{Refusal}
 use Rattle.answers.specs.declared.lines.Step.TheVariants as step
 use Rattle.answers.specs.Lines.{done_line, checked_line, generated_line, step_line}
 use Rattle.cli_words.specs.declared.command.Command.{Command}
@@ -19,9 +20,11 @@ use Rattle.ring_core.specs.declared.event.Event.{Event}
 use Rattle.ring_core.specs.declared.event.Event.TheVariants.{Claim, Place, Take, Back, Halt}
 use Rattle.slice_engine.specs.declared.done.Done.{Done}
 use Rattle.slice_engine.specs.declared.done.Done.TheVariants.{Sliced, Checked, Drawn}
+use Rattle.slice_engine.specs.declared.totals.Totals.{Totals}
 use Rattle.slice_engine.specs.declared.uses.UseCounts.{UseCounts}
 use Rattle.slice_engine.specs.Jobs.{SamplePlate}
 use Rattle.slice_engine.specs.Files.{plans_of, job_file}
+use Rattle.slice_engine.specs.Totals.{totals_of, no_totals}
 
 -- ---- uses and switches
 
@@ -31,7 +34,7 @@ is_use plan = not (length plan.paths == 0)
 
 -- one more use: of another extruder than the one before it is a switch, which has one preheat
 abbrev pub with_use : UseCounts → ℕ → UseCounts
-with_use u e = record { last = e; uses = counted u.uses; switches = cond (u.last == e) u.switches (counted u.switches) }
+with_use u e = record { last = e; uses = counted u.uses; switches = cond (e == u.last) u.switches (counted u.switches) }
 
 -- the uses on a layer
 abbrev pub with_plans : UseCounts → List ExtruderPlan → UseCounts
@@ -60,27 +63,33 @@ generated_of number plate job = record {
   bytes = bytes_after 0 (length (job_file job));
 }
 
--- this is told of the job that a number draws
-pub record IsDrawn (number : ℕ) (job : JobValue) (told : Generated) : Type 0 where
+-- this is told of the job that a number draws, and these are its totals
+pub record IsDrawn (number : ℕ) (job : JobValue) (told : Generated) (totals : Totals) : Type 0 where
   pub plate : PlateValue
   pub defined : SamplePlate number (Ok plate)
   pub areas : AreasGive plate.settings plate.meshes (Ok job)
   pub told_is : told ≡ generated_of number plate job
+  pub totals_are : totals ≡ totals_of job
 
 -- what a command does with a job
 abbrev pub IsDone : Result Command WordFault → JobValue → Done → Type 0
-IsDone (Ok (Slice task)) job done = done ≡ Sliced (length job.layers)
-IsDone (Ok (Serial task)) job done = done ≡ Sliced (length job.layers)
-IsDone (Ok (Check task)) job done = done ≡ Checked (length job.layers)
-IsDone (Ok (Gen number name)) job (Drawn told) = IsDrawn number job told
+IsDone (Ok (Slice task)) job done = done ≡ Sliced (totals_of job)
+IsDone (Ok (Serial task)) job done = done ≡ Sliced (totals_of job)
+IsDone (Ok (Check task)) job done = done ≡ Checked (totals_of job)
+IsDone (Ok (Gen number name)) job (Drawn told totals) = IsDrawn number job told totals
 IsDone (Ok (Gen number name)) job done = ⊥
 IsDone (Err f) job done = ⊥
 
+-- the totals of a run stay where it has no refusal
+abbrev pub kept_totals : Option Refusal → Totals → Totals
+kept_totals None totals = totals
+kept_totals (Some r) totals = no_totals
+
 -- the line of what was done
 abbrev pub done_text : Done → Bytes
-done_text (Sliced n) = done_line n
-done_text (Checked n) = checked_line n
-done_text (Drawn told) = generated_line told
+done_text (Sliced totals) = done_line totals.layers
+done_text (Checked totals) = checked_line totals.layers
+done_text (Drawn told totals) = generated_line told
 
 -- the line of an event; a job that was done has no halt
 abbrev pub event_line : Event → Bytes

@@ -6,6 +6,7 @@ use Rattle.outside.specs.Holding.{GainedFront, emptied_of}
 use Rattle.outside.specs.Output.{Output}
 use Rattle.plan_types.specs.Jobs.{JobValue}
 use Rattle.ring_core.specs.declared.event.Event.{Event}
+use Rattle.ring_core.specs.declared.event.Cause.TheVariants.{Memory, Write}
 use Rattle.ring_core.specs.Core.{IsRun, reached}
 use Rattle.ring_core.specs.Laws.{backs, IsWhole}
 use Rattle.slice_engine.specs.Files.{job_file, CutShort}
@@ -18,6 +19,17 @@ pub record IsFullRun (n workers : ℕ) (journal : List Event) : Type 0 where
   pub free : (reached journal).holder ≡ None
   pub calm : (reached journal).cause ≡ None
   pub whole : IsWhole n journal
+
+-- a run in which the output failed, now for that count of times: before the first event, at the layer at which a worker
+-- halted with this count, first of all causes, or behind all layers
+pub record RanToFailure (n workers : ℕ) (journal : List Event) (faults : ℕ) : Type 0 where
+  pub run : IsRun n workers journal
+  pub cause : (journal ≡ []) ⊎ (((reached journal).cause ≡ Some (Write faults)) ⊎ IsFullRun n workers journal)
+
+-- a run in which memory ran out: before the first event, or where a worker halted for that, first of all causes
+pub record RanOutOfMemory (n workers : ℕ) (journal : List Event) : Type 0 where
+  pub run : IsRun n workers journal
+  pub cause : (journal ≡ []) ⊎ ((reached journal).cause ≡ Some Memory)
 
 -- memory ran out while workers planned: the output was begun once, under this name, and not ended; it holds a front of
 -- the file, and, unless a write failed too, exactly what is written once the plans that were given back were accepted

@@ -12,12 +12,14 @@ mod slicing;
 mod still;
 mod telling;
 mod top;
+mod totals;
 mod uses;
 mod wide;
 mod writing;
 
 pub use answers::Refusal;
 pub use done::Done;
-pub use laws::one_job;
+pub use laws::{one_job, switches_are_preheated};
 pub use runs::Run;
 pub use top::{slice_top, still_top};
+pub use totals::Totals;

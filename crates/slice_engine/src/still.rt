@@ -14,6 +14,7 @@ ghost use Rattle.slice_engine.specs.Inner.Feeding.{stop_refusal};
 
 use crate::done::Done;
 use crate::planning::{Sample, plan_sample, plan_task};
+use crate::totals::totals_of;
 use crate::uses::uses;
 use crate::writing::{Stop, Written, write_file};
 use answers::{Generated, Refusal};
@@ -64,8 +65,8 @@ fn slice_still<Sh: Shelf, Si: Sink>(
     } = write_file(alloc, &job, name, sink);
     match wrote {
         Ok(()) => {
-            let layers = job.layers.len() as u32;
-            (Ok(Done::Sliced { layers }), sink)
+            let totals = totals_of(&job);
+            (Ok(Done::Sliced { totals }), sink)
         }
         Err(stop) => (Err(stop_refusal(stop)), sink),
     }
@@ -83,7 +84,7 @@ fn check<Sh: Shelf>(alloc: Global, task: Task, shelf: &mut Sh) -> Result<Done, R
 {
     let job = plan_task(alloc, &task, shelf)?;
     Ok(Done::Checked {
-        layers: job.layers.len() as u32,
+        totals: totals_of(&job),
     })
 }
 
@@ -112,7 +113,8 @@ fn draw<Si: Sink>(alloc: Global, number: u32, name: Text, sink: Si) -> (Result<D
                 preheats: uses.switches,
                 bytes,
             };
-            (Ok(Done::Drawn { told }), sink)
+            let totals = totals_of(&job);
+            (Ok(Done::Drawn { told, totals }), sink)
         }
         Err(stop) => (Err(stop_refusal(stop)), sink),
     }

@@ -41,9 +41,9 @@ fn put_what<Co: Sink>(console: &mut Co, done: Done) -> Result<(), Failed>
     ensures err { OnErr result (PutFront (Co.output console.old) (done_text done) (Co.output console.new)) }
 {
     match done {
-        Done::Sliced { layers } => put_done(console, layers),
-        Done::Checked { layers } => put_checked(console, layers),
-        Done::Drawn { told } => put_generated(console, told),
+        Done::Sliced { totals } => put_done(console, totals.layers),
+        Done::Checked { totals } => put_checked(console, totals.layers),
+        Done::Drawn { told, .. } => put_generated(console, told),
     }
 }
 

@@ -12,10 +12,11 @@ ghost use Rattle.plan_types.specs.Jobs.{JobValue};
 ghost use Rattle.slice_engine.specs.declared.done.Done.{Done};
 ghost use Rattle.slice_engine.specs.Jobs.{JobGives, word_refusal};
 ghost use Rattle.slice_engine.specs.Reads.{WordsRead, read_faults};
+ghost use Rattle.slice_engine.specs.Totals.{RunTotals};
 ghost use Rattle.slice_engine.specs.Inner.Answered.{refusal_in};
 ghost use Rattle.slice_engine.specs.Answers.{SaysEnd, SaysWide, Says, SaysAll, WriteFaultsWide, asks_journal, write_faults};
 
-use crate::done::Done;
+use crate::done::{Done, totals_in};
 use crate::laws::one_job;
 use crate::runs::Run;
 use crate::still::do_still;
@@ -118,11 +119,16 @@ pub fn still_top<Sh: Shelf, Si: Sink, Co: Sink>(
     // No file is changed. Each file that the words name is read once for each time that it is named, up to one
     // whose read failed or that is too long; none where the words are at fault.
     ensures reads { WordsRead (map string_bytes words.now) result.0.refusal (Sh.store shelf.old) (Sh.store shelf.new) }
+
+    // The totals are those of the job where it was done, and none where it was refused.
+    ensures totals { RunTotals result.0.refusal (command_of (map string_bytes words.now)) (Sh.store shelf.old).files
+        result.0.totals }
 {
     one_job();
     let (ended, sink) = run_still(alloc, words, shelf, sink);
+    let totals = totals_in(&ended);
     let refusal = tell(console, ended, false, &[]);
-    (Run::of(refusal, Items::new(alloc)), sink)
+    (Run::of(refusal, Items::new(alloc), totals), sink)
 }
 
 // Does what words ask, a slice by many workers.
@@ -216,6 +222,10 @@ pub fn slice_top<Sh: Shelf, Si: Sink + Send, Co: Sink, G: Gate + Sync, R: Thread
     // No file is changed. Each file that the words name is read once for each time that it is named, up to one
     // whose read failed or that is too long; none where the words are at fault.
     ensures reads { WordsRead (map string_bytes words.now) result.0.refusal (Sh.store shelf.old) (Sh.store shelf.new) }
+
+    // The totals are those of the job where it was done, and none where it was refused.
+    ensures totals { RunTotals result.0.refusal (command_of (map string_bytes words.now)) (Sh.store shelf.old).files
+        result.0.totals }
 {
     one_job();
     let WideEnd {
@@ -224,6 +234,7 @@ pub fn slice_top<Sh: Shelf, Si: Sink + Send, Co: Sink, G: Gate + Sync, R: Thread
         journal,
         sink,
     } = run_wide(rt, alloc, words, shelf, sink, gate);
+    let totals = totals_in(&ended);
     let refusal = tell(console, ended, is_asked, &journal);
-    (Run::of(refusal, Items::of(journal)), sink)
+    (Run::of(refusal, Items::of(journal), totals), sink)
 }

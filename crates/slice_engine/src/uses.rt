@@ -36,7 +36,7 @@ fn with_use(uses: UseCounts, extruder: u8) -> UseCounts
     UseCounts {
         last: extruder,
         uses: counted(uses.uses),
-        switches: if uses.last == extruder {
+        switches: if extruder == uses.last {
             uses.switches
         } else {
             counted(uses.switches)

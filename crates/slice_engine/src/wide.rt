@@ -13,6 +13,7 @@ use crate::done::Done;
 use crate::planning::plan_task_wide;
 use crate::slicing::{Wide, write_wide};
 use crate::still::{do_still, stop_refusal};
+use crate::totals::totals_of;
 use answers::Refusal;
 use cli_words::{Command, Task};
 use outside::{Gate, Shelf, Sink};
@@ -74,7 +75,7 @@ fn slice_wide<Sh: Shelf, Si: Sink + Send, G: Gate + Sync, R: Threads + Wait + Sy
     } = write_wide(rt, alloc, &job, name, sink, workers, gate);
     let ended = match wrote {
         Ok(()) => Ok(Done::Sliced {
-            layers: job.layers.len() as u32,
+            totals: totals_of(&job),
         }),
         Err(stop) => Err(stop_refusal(stop)),
     };

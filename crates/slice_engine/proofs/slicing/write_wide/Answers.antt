@@ -1,5 +1,5 @@
 use denote.Param.Send.{sendable}
-use Rattle.std.proofs.Common.{rules, ◌≡◌, ◌<◌, ◌^◌, ◌%◌, refl, sym, ap, subst, ◌∙◌, arith, [], length}
+use Rattle.std.proofs.Common.{rules, ◌≡◌, ◌<◌, ◌^◌, ◌%◌, inl, refl, sym, ap, subst, ◌∙◌, arith, [], length}
 use Rattle.ring_core.specs.declared.event.Event.{Event}
 use Rattle.ring_core.specs.Core.{IsRun}
 use Rattle.slice_engine.specs.Files.{BrokenOff}
@@ -9,7 +9,7 @@ use Rattle.slice_engine.proofs.RingEnds.{RingEnd, ended_wide, unmade_wide}
 use Rattle.slice_engine.proofs.slicing.write_wide.Goals as goal
 
 pub returns-in-Err : goal.returns-in-Err
-returns-in-Err g c = (subst (λ (es : _). IsRun (length c.args.job.now.layers) c.args.workers es) (sym c.new.ensures.items) tt, unbegun c.args.job.now c.args.name (g.S.Sink.output c.args.sink) (g.S.Sink.output c.in-Err.unbegun.sink) c.writes_a_front.ensures.front c.in-Err.ensures.err)
+returns-in-Err g c = (record { run = subst (λ (es : _). IsRun (length c.args.job.now.layers) c.args.workers es) (sym c.new.ensures.items) tt; cause = inl c.new.ensures.items }, unbegun c.args.job.now c.args.name (g.S.Sink.output c.args.sink) (g.S.Sink.output c.in-Err.unbegun.sink) c.writes_a_front.ensures.front c.in-Err.ensures.err)
 
 pub returns-in-Ok-run_ring : goal.returns-in-Ok-run_ring
 returns-in-Ok-run_ring g c =

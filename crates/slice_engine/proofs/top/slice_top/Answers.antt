@@ -1,11 +1,15 @@
-use Rattle.std.proofs.Common.{rules, map, string_bytes, Some, None, Option, Result, List, sym, subst, ◌≡◌, ◌⊎◌, ◌∙◌}
+use Rattle.std.proofs.Common.{rules, map, string_bytes, Some, None, Option, Result, List, ap, sym, subst, ◌≡◌, ◌⊎◌, ◌∙◌}
 use Rattle.answers.specs.declared.refusal.Refusal.{Refusal}
 use Rattle.answers.specs.declared.refusal.Refusal.TheVariants as refusal
 use Rattle.cli_words.specs.Command.{command_of}
 use Rattle.ring_core.specs.declared.event.Event.{Event}
+use Rattle.slice_engine.specs.declared.totals.Totals.{Totals}
+use Rattle.slice_engine.specs.Totals.{RunTotals}
+use Rattle.slice_engine.specs.Done.{kept_totals}
 use Rattle.slice_engine.specs.Answers.{SaysAll, Tells, asks_journal}
 use Rattle.slice_engine.proofs.Endings.{bad_word_told, no_input_told, no_output_told, refused_told}
 use Rattle.slice_engine.proofs.WideEndings.{as_still, complete_told, tells_asked}
+use Rattle.slice_engine.proofs.RunTotals.{run_totals}
 use Rattle.slice_engine.proofs.top.slice_top.Goals as goal
 
 pub returns-clause-says : goal.returns-clause-says
@@ -92,3 +96,17 @@ returns-clause-refused g c = λ files r told gives quiet.
     subst (λ (x : Option Refusal). (x ≡ Some r) ⊎ (x ≡ Some refusal.NoMemory)) (sym c.of-2.ensures.refusal)
     (refused_told w.is_asked c.deref.result.now command (Some files) r w.ended c.tell-refusal.result shelf shelf_after o still.0 before after
     (c.one_job.ensures (map string_bytes c.args.words.now) files) told gives quiet still.1 c.tell-refusal.ensures)
+
+pub returns-clause-totals : goal.returns-clause-totals
+returns-clause-totals g c =
+    let command = command_of (map string_bytes c.args.words.now) in
+    let w = c.run_wide-ended.result in
+    let shelf = g.Sh.Shelf.store c.args.shelf.now in
+    let shelf_after = g.Sh.Shelf.store c.run_wide-ended.new.shelf in
+    let before = g.Co.Sink.output c.args.console.now in
+    let after = g.Co.Sink.output c.tell-refusal.new.console in
+    let o = g.Si.Sink.output c.args.sink in
+    let still = as_still w.ended command w.journal.items shelf shelf_after o (g.Si.Sink.output w.sink) c.run_wide-ended.ensures.says in
+    subst (λ (x : Option Refusal). RunTotals x command shelf.files c.of-2.result.totals) (sym c.of-2.ensures.refusal)
+    (subst (λ (t : Totals). RunTotals c.tell-refusal.result command shelf.files t) (sym (c.of-2.ensures.totals ∙ ap (kept_totals c.tell-refusal.result) c.totals_in-totals.ensures))
+    (run_totals w.is_asked c.deref.result.now w.ended command c.tell-refusal.result shelf shelf_after o still.0 before after still.1 c.tell-refusal.ensures))

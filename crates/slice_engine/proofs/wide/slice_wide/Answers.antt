@@ -1,9 +1,10 @@
-use Rattle.std.proofs.Common.{rules, ◌≡◌, ℕ, Ok, Err, Result, length, sym, ap, subst, ◌∙◌}
+use Rattle.std.proofs.Common.{rules, ◌≡◌, ℕ, Ok, Err, Result, sym, ap, subst, ◌∙◌}
 use Rattle.answers.specs.declared.refusal.Refusal.{Refusal}
 use Rattle.slice_engine.specs.declared.done.Done.{Done}
 use Rattle.slice_engine.specs.declared.done.Done.TheVariants.{Sliced}
 use Rattle.slice_engine.specs.declared.writing.Stop.{Stop}
 use Rattle.slice_engine.specs.Answers.{SaysSlice}
+use Rattle.slice_engine.specs.Totals.{totals_of}
 use Rattle.slice_engine.specs.Inner.Slicing.{WroteWide}
 use Rattle.slice_engine.proofs.WideEndings.{sliced, slice_stopped}
 use Rattle.slice_engine.proofs.wide.slice_wide.Goals.{in-Ok-wrote, in-Err-wrote}
@@ -25,8 +26,8 @@ returns-clause-says g c =
     subst (λ (n : ℕ). WroteWide c.write_wide-wrote.result.wrote journal job n name before after) c.from-workers.ensures c.write_wide-wrote.ensures in
     elim c.match-wrote.branch [
       | in-Ok-wrote w ↦
-          let same : w.len.result ≡ length job.layers = search rules in
-          told (Ok (Sliced (length job.layers))) (w.ended-is ∙ ap (λ n. Ok (Sliced n)) same) (sliced task shelf shelf_after journal job name before after c.in-Ok.ensures.says c.in-Some.is
+          let same : w.totals_of.result ≡ totals_of job = search rules in
+          told (Ok (Sliced (totals_of job))) (w.ended-is ∙ ap (λ t. Ok (Sliced t)) same) (sliced task shelf shelf_after journal job name before after c.in-Ok.ensures.says c.in-Some.is
           (subst (λ (r : Result (Unit {0}) Stop). WroteWide r journal job task.workers name before after) w.in-Ok-wrote.is wrote))
       | in-Err-wrote w ↦
           told _ (w.ended-is ∙ ap Err w.stop_refusal.ensures) (slice_stopped task shelf shelf_after journal job name before after w.in-Err-wrote.stop c.in-Ok.ensures.says c.in-Some.is
