@@ -157,6 +157,32 @@ fn each_write_that_fails_leaves_the_lines_before_it(rt: HostRuntime) -> Result<(
     Ok(())
 }
 
+// A sink without room for the whole file takes what it has room for.
+#[test]
+fn a_sink_that_runs_full_holds_a_front(rt: HostRuntime) -> Result<(), Fail> {
+    let plate = PLATE.text(rt.alloc(), None, OUTWARD)?;
+    let files = [("plate.stl", plate.as_bytes())];
+    for command in ["serial", "slice -m2"] {
+        for part in 0..24usize {
+            let mut outside = with_files(&files);
+            outside.room = part * 28;
+            let lines = [command, "-o plate.gcode", ONE_WALL, "-l plate.stl"];
+            let ended = run(&rt, rt.alloc(), &lines, outside)?;
+            let held = ended.sink.bytes();
+            assert!(rt;
+                held.len() == part * 28 && PLATE_FILE.starts_with(held),
+                "{command} {part}"
+            );
+            assert!(rt;
+                ended.run.status == 5 && ended.sink.ends() == 0,
+                "{command}"
+            );
+            assert!(rt; ended.console.bytes() == b"error: cannot write\n".as_slice());
+        }
+    }
+    Ok(())
+}
+
 #[test]
 fn facets_that_face_inward_are_the_same_print(rt: HostRuntime) -> Result<(), Fail> {
     let inward = PLATE.text(rt.alloc(), None, [0, 2, 1])?;

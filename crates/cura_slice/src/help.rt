@@ -10,7 +10,7 @@ use outside::{Sink, put_all};
 use slice_base::NoMemory;
 use std::alloc::Global;
 
-const USAGE: &str = "\
+pub(crate) const USAGE: &str = "\
 cura_slice slices ASCII STL meshes into one G-code file for Marlin.
 
 Usage:
@@ -39,7 +39,8 @@ Words behind slice, serial and check, in any order:
   -mN             threads, 1 to 64, in place of 4; without effect but in slice
   --journal       prints what each thread did with each layer, a line a step; without
                   effect but in slice
-  -v, -p          accepted, without effect
+  -v              tells totals on standard error
+  -p              shows on a terminal which layer is planned; without effect but in slice
 
 The -s behind a -l are for that mesh, those before any -l, -e and -g for the
 whole print. A mesh's own setting goes before its extruder's, and that before
@@ -48,7 +49,7 @@ the whole print's; of those in one place the last counts.
 The file has walls, skin, infill and skirt of each layer, with travels, retractions,
 speeds, fan and temperatures. An extruder is heated up again before its turn comes.
 The line ;OPEN_OUTLINES:<n> tells how many outlines a mesh with holes left open; these
-aren't printed.
+aren't printed, and a warning on standard error says so.
 
 Statuses:
   0  done
@@ -60,6 +61,7 @@ Statuses:
   6  there was no memory
   7  standard output failed after all else was done
 A job that isn't done prints one line, error: <what>: see cura_slice --help messages.
+What to do about it is told on standard error.
 
 Example:
   cura_slice slice -s layer_height=0.1 -l part.stl -s center_object=true -o part.gcode
@@ -115,8 +117,21 @@ error: cannot write
 
 Where standard output fails no line is printed, and the status is 7: the file is whole.
 
-A mesh with holes is sliced: outlines with gaps of over 10 mm are left out. The file's line
-;OPEN_OUTLINES:<n> tells how many; where it isn't 0, mend the mesh.
+On standard error:
+
+advice: <what>
+    What to do about the error above it.
+note: <key> has no effect
+    No setting has that key, or it was given for what it can't be given for. See:
+    cura_slice --help settings.
+warning: outlines that stayed open and were left out: <n>
+    A mesh has holes: outlines with gaps of over 10 mm aren't printed. Mend the mesh, or
+    export it anew. The file's line ;OPEN_OUTLINES:<n> tells the same.
+warning: layers on which nothing is printed: <n> of <n>
+    No mesh has a wall, skin or fill there: it is open there, or thinner than a line is
+    wide (wall_line_width), or doesn't reach there. Look at the file before it is printed.
+totals: <what>
+    Told with -v.
 ";
 
 // The second line is the toolchain's own name of itself, by which the program was proved.

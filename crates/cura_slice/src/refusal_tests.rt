@@ -90,7 +90,7 @@ const SETTING_ROWS: [Row; 9] = [
     ("check -j s -l t", 0, b"checked 1 layers\n"),
 ];
 
-const MESH_ROWS: [Row; 10] = [
+const MESH_ROWS: [Row; 12] = [
     (
         "serial -o g -l t -l bad",
         3,
@@ -102,6 +102,12 @@ const MESH_ROWS: [Row; 10] = [
         b"error: no triangles: mesh 0\n",
     ),
     ("check -l x", 3, b"error: no triangles: mesh 0\n"),
+    ("slice -o g -l zero", 3, b"error: bad STL: mesh 0 line 1\n"),
+    (
+        "check -l t -l closed",
+        3,
+        b"error: bad STL: mesh 1 line 1\n",
+    ),
     (
         "serial -o g -l t -s mesh_position_z=-0.001",
         3,
@@ -134,9 +140,11 @@ const MESH_ROWS: [Row; 10] = [
 #[test]
 fn each_refusal_names_its_cause(rt: HostRuntime) -> Result<(), Fail> {
     let thin = THIN.text(rt.alloc(), None, OUTWARD)?;
-    let files: [(&str, &[u8]); 8] = [
+    let files: [(&str, &[u8]); 10] = [
         ("t", thin.as_bytes()),
         ("bad", BAD_FACET),
+        ("zero", b"\0solid a\n"),
+        ("closed", b"endsolid a\n"),
         ("empty", b""),
         ("x", b"solid x"),
         ("s", SETTINGS),
@@ -189,6 +197,31 @@ fn a_failing_read_names_its_file(rt: HostRuntime) -> Result<(), Fail> {
     Ok(())
 }
 
+#[test]
+fn no_file_is_read_behind_a_missing_one(rt: HostRuntime) -> Result<(), Fail> {
+    let plate = PLATE.text(rt.alloc(), None, OUTWARD)?;
+    let files = [("a", plate.as_bytes()), ("s", SETTINGS)];
+    for (words, told, reads) in [
+        ("-l a -l u -j s", b"error: cannot read u\n", 2),
+        ("-j v -l u -l a", b"error: cannot read v\n", 1),
+        ("-l a -j s -l a -j v", b"error: cannot read v\n", 4),
+    ] {
+        for command in ["serial -o o", "slice -m2 -o o", "check"] {
+            let ended = run(&rt, rt.alloc(), &[command, words], with_files(&files))?;
+            assert!(rt;
+                ended.run.status == 4 && ended.reads == reads,
+                "{command} {words}"
+            );
+            assert!(rt;
+                ended.console.bytes() == told.as_slice(),
+                "{command} {words}"
+            );
+            assert!(rt; ended.sink.begins() == 0, "{command} {words}");
+        }
+    }
+    Ok(())
+}
+
 // A console that fails is the answer only where all else was done; the file is whole.
 #[test]
 fn a_failing_console_is_told_only_where_all_else_was_done(rt: HostRuntime) -> Result<(), Fail> {
@@ -216,5 +249,31 @@ fn a_failing_console_is_told_only_where_all_else_was_done(rt: HostRuntime) -> Re
         );
         assert!(rt; ended.sink.held_at_end() == held, "{command}");
     }
+    Ok(())
+}
+
+// Each call of the console fails in turn, in the line of what was done and in those of the journal: it has got what
+// was told before, and the file is whole.
+#[test]
+fn a_console_that_fails_later_has_got_what_was_told_before(rt: HostRuntime) -> Result<(), Fail> {
+    let plate = PLATE.text(rt.alloc(), None, OUTWARD)?;
+    let files = [("plate.stl", plate.as_bytes())];
+    let lines = ["slice -m1 --journal -o o", ONE_WALL, "-l plate.stl"];
+    let all = run(&rt, rt.alloc(), &lines, with_files(&files))?;
+    let told = all.console.bytes();
+    let mut failed = 0u32;
+    for call in 1..50u32 {
+        let mut outside = with_files(&files);
+        outside.failing_line = Some(call);
+        let ended = run(&rt, rt.alloc(), &lines, outside)?;
+        let is_whole = ended.console.bytes() == told;
+        assert!(rt; told.starts_with(ended.console.bytes()), "call {call}");
+        let status = if is_whole { 0 } else { 7 };
+        assert!(rt; ended.run.status == status, "call {call}");
+        assert!(rt; ended.sink.held_at_end() == 672, "call {call}");
+        failed = failed.saturating_add(u32::from(!is_whole));
+    }
+    // At least one call a line.
+    assert!(rt; failed >= 9 && failed < 49);
     Ok(())
 }

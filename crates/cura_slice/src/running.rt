@@ -5,9 +5,10 @@ ghost use Rattle.cura_slice.specs.Help.{asked_of};
 ghost use Rattle.cura_slice.specs.Running.{ToldRefusal, DidWords};
 
 use crate::help::{asked, tell};
+use crate::notes::{put_note, run_note, unread_note};
 use crate::words::refuse;
 use answers::Refusal;
-use outside::{NoGate, Shelf, Sink};
+use outside::{Gate, Shelf, Sink};
 use slice_engine::slice_top;
 use std::alloc::Global;
 use std::sync::Wait;
@@ -15,14 +16,23 @@ use std::thread::Threads;
 
 /// Tells what the words ask of the program itself; where they ask nothing of it, does their job. Where there
 /// are no words, tells why. The answer is the program's status, and the sink is handed back. A `slice` waits for
-/// its workers.
-pub fn run<Sh: Shelf, Si: Sink + Send, Co: Sink, R: Threads + Wait + Sync>(
+/// its workers, which pass the gate. Notes on what was told go to a sink of their own, whose faults change nothing.
+pub fn run<
+    Sh: Shelf,
+    Si: Sink + Send,
+    Co: Sink,
+    No: Sink,
+    G: Gate + Sync,
+    R: Threads + Wait + Sync,
+>(
     rt: &R,
     alloc: Global,
     words: Result<Vec<String>, Refusal>,
     shelf: &mut Sh,
     sink: Si,
     console: &mut Co,
+    notes: &mut No,
+    gate: &G,
 ) -> (u8, Si)
     ensures did { IfOk words (λ ws. DidWords (asked_of (map string_bytes ws.items)) (map string_bytes ws.items) result.0
         (Sh.store shelf.old) (Sh.store shelf.new) (Si.output sink) (Si.output result.1)
@@ -32,11 +42,17 @@ pub fn run<Sh: Shelf, Si: Sink + Send, Co: Sink, R: Threads + Wait + Sync>(
 {
     let words = match words {
         Ok(words) => words,
-        Err(refusal) => return (refuse(refusal, console), sink),
+        Err(refusal) => {
+            let note = unread_note(alloc, &refusal);
+            let status = refuse(refusal, console);
+            put_note(note, notes);
+            return (status, sink);
+        }
     };
     if let Some(topic) = asked(words.as_slice()) {
         return (tell(alloc, topic, console), sink);
     }
-    let (run, sink) = slice_top(rt, alloc, words.as_slice(), shelf, sink, console, &NoGate);
+    let (run, sink) = slice_top(rt, alloc, words.as_slice(), shelf, sink, console, gate);
+    put_note(run_note(alloc, words.as_slice(), &run), notes);
     (run.status, sink)
 }

@@ -32,10 +32,11 @@ pub(crate) fn with_files<'a>(files: &'a [(&'a str, &'a [u8])]) -> Outside<'a> {
     }
 }
 
-// How a run ended, what the sink holds, and what the console got.
+// How a run ended, how many files were asked for, what the sink holds, and what the console got.
 #[derive(Drop)]
 pub(crate) struct Ended {
     pub(crate) run: Run,
+    pub(crate) reads: u64,
     pub(crate) sink: MemSink,
     pub(crate) console: MemSink,
 }
@@ -100,7 +101,12 @@ pub(crate) fn run_past<R: Threads + Wait + Sync, G: Gate + Sync>(
         &mut console,
         gate,
     );
-    Ok(Ended { run, sink, console })
+    Ok(Ended {
+        run,
+        reads: shelf.reads(),
+        sink,
+        console,
+    })
 }
 
 pub(crate) fn run<R: Threads + Wait + Sync>(

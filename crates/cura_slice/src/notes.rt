@@ -1,0 +1,105 @@
+// What standard error gets: what to do about a refusal, and what wants a look though it is none.
+
+use crate::advice::{push_advice, push_unread_advice};
+use crate::effects::push_idle;
+use crate::flags::has_flag;
+use crate::texts::{push, push_number};
+use answers::Refusal;
+use cli_words::{Command, Item, read_words};
+use outside::{Sink, put_all};
+use slice_base::NoMemory;
+use slice_engine::{Run, Totals};
+use std::alloc::Global;
+
+// What a command is made from.
+fn items_in(command: &Command) -> &[Item] {
+    match command {
+        Command::Slice(task) => task.items.items(),
+        Command::Serial(task) => task.items.items(),
+        Command::Check(task) => task.items.items(),
+        Command::Gen { .. } => &[],
+    }
+}
+
+// Puts what a mesh with holes leaves out, and on how many layers there is nothing.
+fn push_warnings(text: &mut Vec<u8>, totals: Totals) -> Result<(), NoMemory> {
+    if totals.open_outlines > 0 {
+        push(
+            text,
+            b"warning: outlines that stayed open and were left out: ",
+        )?;
+        push_number(text, u128::from(totals.open_outlines))?;
+        push(text, b"; a mesh has holes, mend it\n")?;
+    }
+    if totals.bare_layers > 0 {
+        push(text, b"warning: layers on which nothing is printed: ")?;
+        push_number(text, u128::from(totals.bare_layers))?;
+        push(text, b" of ")?;
+        push_number(text, u128::from(totals.layers))?;
+        push(text, b"\n")?;
+    }
+    Ok(())
+}
+
+// Puts the totals of a job.
+fn push_totals(text: &mut Vec<u8>, totals: Totals) -> Result<(), NoMemory> {
+    push(text, b"totals: layers ")?;
+    push_number(text, u128::from(totals.layers))?;
+    push(text, b", of them empty ")?;
+    push_number(text, u128::from(totals.bare_layers))?;
+    push(text, b", open outlines ")?;
+    push_number(text, u128::from(totals.open_outlines))?;
+    push(text, b"\n")
+}
+
+fn push_run(
+    alloc: Global,
+    text: &mut Vec<u8>,
+    words: &[String],
+    items: &[Item],
+    run: &Run,
+) -> Result<(), NoMemory> {
+    if let Some(refusal) = &run.refusal {
+        push_advice(alloc, text, refusal, words, items)?;
+        return push_idle(alloc, text, items);
+    }
+    push_idle(alloc, text, items)?;
+    push_warnings(text, run.totals)?;
+    if has_flag(words, "-v") {
+        return push_totals(text, run.totals);
+    }
+    Ok(())
+}
+
+// All that is told of a run.
+fn noted(alloc: Global, words: &[String], run: &Run) -> Result<Vec<u8>, NoMemory> {
+    let mut text = Vec::new(alloc);
+    match read_words(alloc, words) {
+        Ok(command) => push_run(alloc, &mut text, words, items_in(&command), run)?,
+        Err(_) => push_run(alloc, &mut text, words, &[], run)?,
+    }
+    Ok(text)
+}
+
+/// What is told of a run: what to do about its refusal, which settings have no effect, what was left out, and with `-v`
+/// the totals. Nothing where memory ran out.
+pub(crate) fn run_note(alloc: Global, words: &[String], run: &Run) -> Result<Vec<u8>, NoMemory> {
+    if matches!(run.refusal, Some(Refusal::NoMemory)) {
+        return Err(NoMemory);
+    }
+    noted(alloc, words, run)
+}
+
+/// What is told where there are no words.
+pub(crate) fn unread_note(alloc: Global, refusal: &Refusal) -> Result<Vec<u8>, NoMemory> {
+    let mut text = Vec::new(alloc);
+    push_unread_advice(&mut text, refusal)?;
+    Ok(text)
+}
+
+/// Puts a note, where there was memory for it. What becomes of it changes nothing.
+pub(crate) fn put_note<No: Sink>(note: Result<Vec<u8>, NoMemory>, notes: &mut No) {
+    if let Ok(text) = note {
+        let _ = put_all(notes, text.as_slice());
+    }
+}
