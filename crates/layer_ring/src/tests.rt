@@ -162,14 +162,38 @@ fn sixty_four_workers_feed_all_layers_in_order(rt: HostRuntime) {
 
 #[test]
 fn want_of_memory_ends_the_ring_behind_the_layers_before(rt: HostRuntime) {
-    let ended = ended(&rt, rt.alloc(), 12, 1, 3, 12);
-    assert_eq!(rt; ended.halted, Some(Cause::Memory));
-    assert_eq!(rt; ended.consumer.kept.as_slice(), [0, 1, 2].as_slice());
-    let halt = Event::Halt {
-        worker: 0,
-        cause: Cause::Memory,
-    };
-    assert_eq!(rt; ended.events.last().copied(), Some(halt));
+    for refused in 0..12 {
+        let ended = ended(&rt, rt.alloc(), 12, 1, refused, 12);
+        assert_eq!(rt; ended.halted, Some(Cause::Memory));
+        assert_eq!(rt; ended.consumer.kept.len(), refused as usize);
+        assert_eq!(rt;
+            takes_and_backs(ended.events.as_slice()),
+            (refused, refused)
+        );
+        let halt = Event::Halt {
+            worker: 0,
+            cause: Cause::Memory,
+        };
+        assert_eq!(rt; ended.events.last().copied(), Some(halt));
+    }
+}
+
+// Where a worker has no memory another may still have layers below to place, which nobody takes: what was taken is a
+// front of them.
+#[test]
+fn want_of_memory_among_many_workers_leaves_a_front(rt: HostRuntime) {
+    for workers in 2..6 {
+        for refused in 0..12 {
+            let ended = ended(&rt, rt.alloc(), 12, workers, refused, 12);
+            assert_eq!(rt; ended.halted, Some(Cause::Memory));
+            let (takes, backs) = takes_and_backs(ended.events.as_slice());
+            assert!(rt; takes == backs && backs <= refused);
+            assert_eq!(rt; ended.consumer.kept.len(), backs as usize);
+            for (layer, plan) in ended.consumer.kept.iter().enumerate() {
+                assert_eq!(rt; layer, *plan as usize);
+            }
+        }
+    }
 }
 
 #[test]
