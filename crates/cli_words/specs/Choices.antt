@@ -2,6 +2,7 @@
 use Rattle.std.specs.Prelude.{ℕ, ◌+◌, ◌==◌, nat_le, Bool, true, false, cond, ◌&&◌, List, [], ◌∷◌, ◌++◌, length, take, drop, position, count_by, Option, Some, None, Result, Ok, Err, bytes_eq, codes}
 use Rattle.std.specs.Str.{all_ascii_digits}
 use Rattle.std.specs.Str.Parse.{digits_value}
+use Rattle.slice_base.specs.Limits.{max_workers, max_meshes}
 use Rattle.cli_words.specs.declared.choice.Taker.{Taker}
 use Rattle.cli_words.specs.declared.choice.Taker.TheVariants.{Settings, Mesh, Pair, Output}
 
@@ -60,7 +61,8 @@ if_within least greatest (Some n) = cond (nat_le least n && nat_le n greatest) (
 
 -- one digit or more, at most so many, for a number from the least to the greatest
 abbrev pub number_of : ℕ → ℕ → ℕ → List ℕ → Option ℕ
-number_of most least greatest ds = cond (nat_le 1 (length ds) && nat_le (length ds) most) (if_within least greatest (numeral ds)) None
+number_of most least greatest ds =
+    cond (nat_le 1 (length ds) && nat_le (length ds) most) (if_within least greatest (numeral ds)) None
 
 -- the extruder of a number, where there is one
 abbrev pub extruder_if : Option ℕ → Option Chosen
@@ -78,7 +80,7 @@ extruder_of ds = extruder_if (number_of 1 0 7 ds)
 
 -- the workers that at most two digits count, from 1 to 64
 abbrev pub workers_of : List ℕ → Option Chosen
-workers_of ds = workers_if (number_of 2 1 64 ds)
+workers_of ds = workers_if (number_of 2 1 max_workers ds)
 
 -- `-e` and an extruder, or `-m` and a count of workers
 abbrev pub numbered : List ℕ → Option Chosen
@@ -125,7 +127,7 @@ is_mesh c = false
 -- there are sixteen of these already
 abbrev pub is_full : Taker → ℕ → ℕ → Bool
 is_full Settings files meshes = nat_le 16 files
-is_full Mesh files meshes = nat_le 16 meshes
+is_full Mesh files meshes = nat_le max_meshes meshes
 is_full t files meshes = false
 
 -- what is chosen, or word n is at fault
@@ -148,7 +150,9 @@ with_choice (Ok c) rest = rest c
 -- the choices of all pieces, or the number of the first word at fault
 abbrev pub read : ℕ → List Chosen → List Piece → Result (List Chosen) ℕ
 read n done [] = Ok done
-read n done (p ∷ ps) = with_choice (choice_of n (count_by is_settings done) (count_by is_mesh done) p) (λ c. read (n + words_in p) (done ++ c ∷ []) ps)
+read n done (p ∷ ps) =
+    with_choice (choice_of n (count_by is_settings done) (count_by is_mesh done) p)
+    (λ c. read (n + words_in p) (done ++ c ∷ []) ps)
 
 -- the choices of the words behind the command, the first of which is word 2
 abbrev pub choices_of : List (List ℕ) → Result (List Chosen) ℕ

@@ -4,6 +4,7 @@ use Rattle.std.specs.List.{All, fold}
 use Rattle.settings_core.specs.declared.pairs.Scope.{Scope}
 use Rattle.settings_core.specs.declared.pairs.Scope.TheVariants as scope
 use Rattle.settings_core.specs.declared.pairs.Given.TheVariants.{Words}
+use Rattle.slice_base.specs.Limits.{max_workers, max_meshes, max_extruders}
 use Rattle.cli_words.specs.declared.command.Item.{Item}
 use Rattle.cli_words.specs.declared.command.Item.TheVariants as item
 use Rattle.cli_words.specs.declared.command.Task.{Task}
@@ -65,7 +66,12 @@ output_in cs = fold output_or None cs
 
 -- the task that choices make: four workers and no journal, unless they say otherwise
 abbrev pub task_of : List Chosen → Task
-task_of cs = record { workers = fold workers_or 4 cs; journal = fold journal_or false cs; out = output_in cs; items = all_items start cs }
+task_of cs = record {
+  workers = fold workers_or 4 cs;
+  journal = fold journal_or false cs;
+  out = output_in cs;
+  items = all_items start cs;
+}
 
 -- no file is named
 abbrev pub is_none : Option (List ℕ) → Bool
@@ -162,10 +168,10 @@ item_extruders (item.Mesh name e ∷ is) = e ∷ item_extruders is
 -- a task has 1 to 64 workers, and 1 to 16 meshes, each with an extruder below 8
 pub record IsTask (t : Task) : Type 0 where
   pub a_worker : 0 < t.workers
-  pub few_workers : t.workers ≤ 64
+  pub few_workers : t.workers ≤ max_workers
   pub some : 0 < length (item_extruders t.items)
-  pub few : length (item_extruders t.items) ≤ 16
-  pub below_eight : All (λ e. e < 8) (item_extruders t.items)
+  pub few : length (item_extruders t.items) ≤ max_meshes
+  pub below_eight : All (λ e. e < max_extruders) (item_extruders t.items)
 
 -- a task is one, and one that writes has a file to write
 abbrev pub IsSound : Command → Type 0

@@ -14,7 +14,8 @@ thousandths_of n = decimal (n / 1000) ++ 46 ∷ digit_of n 100 ∷ digit_of n 10
 -- hundred-thousandths with five decimals
 abbrev pub hundred_thousandths_of : ℕ → Bytes
 hundred_thousandths_of n =
-    decimal (n / 100000) ++ 46 ∷ digit_of n 10000 ∷ digit_of n 1000 ∷ digit_of n 100 ∷ digit_of n 10 ∷ (48 + n % 10) ∷ []
+    decimal (n / 100000)
+    ++ 46 ∷ digit_of n 10000 ∷ digit_of n 1000 ∷ digit_of n 100 ∷ digit_of n 10 ∷ (48 + n % 10) ∷ []
 
 -- millionths with six decimals
 abbrev pub millionths_of : ℕ → Bytes

@@ -1,5 +1,6 @@
 -- The lines of a region stay in every box in which it lies.
 use Rattle.std.proofs.Common.{◌≡◌, ◌≤◌, ◌⊎◌, inl, inr, ℕ, ℤ, refl, pos, ◌+ℤ◌, ◌-ℤ◌, ◌≤ℤ◌, ◌<ℤ◌, List, arith}
+use Rattle.std.specs.Prelude.{neg_ℤ}
 use Rattle.std.specs.Int.RustNames.{unsigned_abs}
 use Rattle.std.specs.List.{All}
 use Rattle.std.proofs.lemmas.Int.{ints}
@@ -7,6 +8,8 @@ use Rattle.slice_base.specs.declared.points.Pt.{Pt}
 use Rattle.slice_base.specs.Boxes.{Box, IsIn, EdgeIn}
 use Rattle.slice_base.specs.Regions.{RegionIn}
 use Rattle.slice_base.specs.Plane.{InSquare}
+use Rattle.slice_base.specs.Whole.{way_of}
+use Rattle.slice_base.proofs.Ways.{way-le, le-way}
 use Rattle.infill_lines.specs.declared.angles.Angle.{Angle}
 use Rattle.infill_lines.specs.declared.angles.Angle.TheVariants.{A0, A45, A90, A135}
 use Rattle.infill_lines.specs.declared.angles.Place.{Place}
@@ -15,7 +18,6 @@ use Rattle.infill_lines.specs.Crossings.{between, region_crossings}
 use Rattle.infill_lines.specs.Fill.{lines_from}
 use Rattle.infill_lines.specs.Inner.Places.{IsPlace}
 use Rattle.infill_lines.specs.Inner.Sorting.{IsOnLine}
-use Rattle.infill_lines.proofs.Ways.{way_of, way-small, way-le, le-way, line-small}
 use Rattle.infill_lines.proofs.Parts.{half-low, half-high}
 use Rattle.infill_lines.proofs.Slants.{IsBetween, part, sum-between, gap-between}
 use Rattle.infill_lines.proofs.Crossed.{Crosses, region-all, lines-all}
@@ -136,6 +138,22 @@ pub lines-in : (box : Box) (n : ℕ) (angle : Angle) (r : List (List Pt)) (step 
 lines-in box n angle r step first k h = lines-all angle (IsIn box) (Fits box angle) (EdgeIn box) (between-in box angle) (edge-in box angle) r h n step first k
 
 -- ---- places aren't far out
+
+abs-le : (z : ℤ) (n : ℕ) → neg_ℤ (pos n) ≤ℤ z → z ≤ℤ pos n → unsigned_abs z ≤ n
+abs-le z n p q = omega (arith, ints)
+
+abs-from : (z : ℤ) (n : ℕ) → unsigned_abs z ≤ n → neg_ℤ (pos n) ≤ℤ z
+abs-from z n h = omega (arith, ints)
+
+abs-to : (z : ℤ) (n : ℕ) → unsigned_abs z ≤ n → z ≤ℤ pos n
+abs-to z n h = omega (arith, ints)
+
+way-small : (a b part whole : ℤ) (n : ℕ) → pos 0 ≤ℤ part → part ≤ℤ whole → pos 0 <ℤ whole → unsigned_abs a ≤ n → unsigned_abs b ≤ n → unsigned_abs (way_of a b part whole) ≤ n
+way-small a b part whole n from to some la lb =
+    abs-le (way_of a b part whole) n (le-way a b part whole (neg_ℤ (pos n)) from to some (abs-from a n la) (abs-from b n lb)) (way-le a b part whole (pos n) from to some (abs-to a n la) (abs-to b n lb))
+
+line-small : (a l b : ℤ) (n : ℕ) → unsigned_abs a ≤ n → unsigned_abs b ≤ n → a ≤ℤ l → l <ℤ b → unsigned_abs l ≤ n
+line-small a l b n la lb from to = omega (arith, ints)
 
 sum-small : (x y : ℤ) → unsigned_abs x ≤ 1700000 → unsigned_abs y ≤ 1700000 → unsigned_abs (x +ℤ y) ≤ 3400000
 sum-small x y p q = omega (arith, ints)

@@ -1,5 +1,3 @@
-mod Rounds
-mod Ways
 mod Pairing
 mod Counting
 mod Filing

@@ -1,8 +1,8 @@
 -- Where an outline crosses a line.
-use Rattle.std.specs.Prelude.{ℕ, ℤ, ◌+ℤ◌, ◌-ℤ◌, ◌*ℤ◌, int_lt, int_le, unsigned_abs, Bool, cond, ◌&&◌, List, [], ◌∷◌, ◌++◌}
+use Rattle.std.specs.Prelude.{ℕ, ℤ, ◌-ℤ◌, int_lt, int_le, Bool, cond, ◌&&◌, List, [], ◌∷◌, ◌++◌}
 use Rattle.slice_base.specs.declared.points.Pt.{Pt}
 use Rattle.slice_base.specs.Shapes.{Points, Loops}
-use Rattle.slice_base.specs.Whole.{rounded}
+use Rattle.slice_base.specs.Whole.{way_of}
 use Rattle.infill_lines.specs.declared.angles.Angle.{Angle}
 use Rattle.infill_lines.specs.declared.angles.Place.{Place}
 use Rattle.infill_lines.specs.Angles.{place_of}
@@ -11,7 +11,7 @@ use Rattle.infill_lines.specs.Angles.{place_of}
 abbrev pub between : Place → Place → ℤ → Place
 between low high line = record {
   across = line;
-  along = low.along +ℤ rounded ((high.along -ℤ low.along) *ℤ (line -ℤ low.across)) (unsigned_abs (high.across -ℤ low.across));
+  along = way_of low.along high.along (line -ℤ low.across) (high.across -ℤ low.across);
 }
 
 -- the lower end is at most at the line, the upper end above it

@@ -22,7 +22,8 @@ abbrev pub last_or : Pt → Points → Pt
 last_or at [] = at
 last_or at (p ∷ ps) = last_or p ps
 
--- filament is pulled back, where that is enabled, before an extruder's first path and before a travel of the least length
+-- filament is pulled back, where that is enabled, before an extruder's first path and before a travel of the least
+-- length
 abbrev pub retracts : ExtruderSettings → Drawing → Pt → Bool
 retracts e d to =
     e.retraction_enable && (length d.paths == 0 || nat_le e.retraction_min_travel (root_of (square_of d.at to)))

@@ -22,7 +22,8 @@ start_of s = record { x = s.layer_start_x; y = s.layer_start_y }
 -- all that an extruder prints on a layer, from where one stands
 abbrev pub drawn : Job → Sheet → List MeshAreas → Bool → Pt → ℕ → Drawing
 drawn job sheet areas is_first at e =
-    with_groups (extruder_of job.settings.extruders e) (record { at = at; paths = [] }) (groups_of job sheet areas is_first e)
+    with_groups (extruder_of job.settings.extruders e) (record { at = at; paths = [] })
+    (groups_of job sheet areas is_first e)
 
 -- the plans of extruders in their order, each from where the one before ends
 abbrev pub drawn_plans : Job → Sheet → List MeshAreas → Bool → Pt → List ℕ → List ExtruderPlan
@@ -39,7 +40,9 @@ drawn_layer job n layer = record {
   thickness = layer.thickness;
   fan = fan_of job.settings n;
   lead = 0;
-  plans = drawn_plans job (record { number = n; thickness = layer.thickness }) layer.meshes true (start_of job.settings) layer.order;
+  plans =
+      drawn_plans job (record { number = n; thickness = layer.thickness }) layer.meshes true (start_of job.settings)
+      layer.order;
   inserts = [];
 }
 

@@ -2,6 +2,7 @@
 use Rattle.std.specs.Prelude.{ℕ, ◌≡◌, ◌≤◌, ◌<◌, true, ◌==◌, unsigned_abs, List, length}
 use Rattle.std.specs.List.{All, count_by}
 use Rattle.slice_base.specs.declared.points.Pt.{Pt}
+use Rattle.slice_base.specs.Limits.{max_layers}
 use Rattle.settings_core.specs.Values.{SettingsValue}
 use Rattle.plan_types.specs.declared.jobs.LayerAreas.{LayerAreas}
 use Rattle.plan_types.specs.declared.plans.ExtruderPlan.{ExtruderPlan}
@@ -25,9 +26,10 @@ pub record IsLayer (settings : SettingsValue) (layer : LayerAreas) : Type 0 wher
   pub thin : unsigned_abs layer.thickness ≤ 2000
 
 -- a job as it is made of settings and meshes
-pub record IsJob (settings : SettingsValue) (layers : List LayerAreas) (skirt : List (List Pt)) (first used : ℕ) : Type 0 where
+pub record IsJob (settings : SettingsValue) (layers : List LayerAreas) (skirt : List (List Pt)) (first used : ℕ)
+    : Type 0 where
   pub some : 1 ≤ length settings.meshes
-  pub few : length layers ≤ 40000
+  pub few : length layers ≤ max_layers
   pub layers_are : All (IsLayer settings) layers
   pub skirt_is : All (IsLoop 1600000) skirt
   pub first_is : first < length settings.extruders

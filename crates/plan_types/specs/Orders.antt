@@ -17,4 +17,5 @@ is_changed_to last wanted e = has_bit wanted e && not (e == last)
 
 -- of the wanted extruders, the one that printed last first, then the others, rising
 abbrev pub extruder_order_of : ℕ → ℕ → List ℕ
-extruder_order_of last wanted = filter (is_kept_on last wanted) all_extruders ++ filter (is_changed_to last wanted) all_extruders
+extruder_order_of last wanted =
+    filter (is_kept_on last wanted) all_extruders ++ filter (is_changed_to last wanted) all_extruders

@@ -47,4 +47,6 @@ point_at axis j radius = moved_by axis (way_of j radius)
 -- the first n points of the outline of a mesh
 unfoldable pub outline_of : ℕ → SampleMesh → ℕ → List Pt
 outline_of number mesh zero = []
-outline_of number mesh (suc j) = outline_of number mesh j ++ point_at (axis_of mesh) j (radius_at (after_draws number (drawn_before mesh + suc j))) ∷ []
+outline_of number mesh (suc j) =
+    outline_of number mesh j
+    ++ point_at (axis_of mesh) j (radius_at (after_draws number (drawn_before mesh + suc j))) ∷ []

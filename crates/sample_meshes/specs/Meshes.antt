@@ -21,7 +21,8 @@ thousandths_text n = codes " " ++ sign_of n ++ decimal (unsigned_abs n) ++ codes
 
 -- a corner: point j of the outline, at the lower side of ring k
 unfoldable pub vertex_at : Pt → ℕ → List ℕ
-vertex_at p ring = codes "vertex" ++ thousandths_text p.x ++ thousandths_text p.y ++ thousandths_text (pos (150 * ring)) ++ codes "\n"
+vertex_at p ring =
+    codes "vertex" ++ thousandths_text p.x ++ thousandths_text p.y ++ thousandths_text (pos (150 * ring)) ++ codes "\n"
 
 -- the vertex line of a corner
 abbrev pub vertex_text : List Pt → Corner → List ℕ
@@ -30,7 +31,8 @@ vertex_text outline c = vertex_at (slice_index_or outline c.point (record { x = 
 -- a facet of three corners, counterclockwise from outside
 unfoldable pub facet_text : List Pt → Corner → Corner → Corner → List ℕ
 facet_text outline a b c =
-    codes "facet normal 0 0 0\nouter loop\n" ++ vertex_text outline a ++ vertex_text outline b ++ vertex_text outline c ++ codes "endloop\nendfacet\n"
+    codes "facet normal 0 0 0\nouter loop\n" ++ vertex_text outline a ++ vertex_text outline b ++ vertex_text outline c
+    ++ codes "endloop\nendfacet\n"
 
 abbrev pub corner_at : ℕ → ℕ → Corner
 corner_at point ring = record { point = point; ring = ring }
@@ -56,7 +58,8 @@ top_text outline j = facet_text outline (corner_at 0 400) (corner_at (j + 1) 400
 -- the column over an outline
 abbrev pub column_text : List Pt → List ℕ
 column_text outline =
-    codes "solid sample\n" ++ texts (ring_text outline) 400 ++ texts (bottom_text outline) 62 ++ texts (top_text outline) 62 ++ codes "endsolid sample\n"
+    codes "solid sample\n" ++ texts (ring_text outline) 400 ++ texts (bottom_text outline) 62
+    ++ texts (top_text outline) 62 ++ codes "endsolid sample\n"
 
 -- the text of one of the two meshes of a number
 abbrev pub mesh_text : ℕ → SampleMesh → List ℕ

@@ -1,10 +1,12 @@
-// Steps and products of any coordinates of 32 bits, exact in 128.
+// Steps, products and parts of ways of any coordinates of 32 bits, exact in 128.
 
-ghost use Rattle.std.specs.Prelude.{◌≡◌, ◌<◌, ◌≤◌, ◌^◌, ◌*◌, ◌+ℤ◌, ◌-ℤ◌, ◌*ℤ◌};
+ghost use Rattle.std.specs.Prelude.{◌≡◌, ◌<◌, ◌≤◌, ◌^◌, ◌*◌, ◌+ℤ◌, ◌-ℤ◌, ◌*ℤ◌, ◌≤ℤ◌, ◌<ℤ◌, pos};
 ghost use Rattle.std.specs.Int.RustNames.{unsigned_abs};
 ghost use Rattle.slice_base.specs.Plane.{cross_of, dot_of, gap_of, square_of};
+ghost use Rattle.slice_base.specs.Whole.{way_of};
 
 use crate::points::Pt;
+use crate::whole::round_div;
 
 /// The step from one coordinate to another, in µm.
 pub fn step(from: i32, to: i32) -> i64
@@ -22,6 +24,18 @@ pub fn product(a: i64, b: i64) -> i128
     ensures small { unsigned_abs result ≤ 2 ^ 64 }
 {
     a as i128 * b as i128
+}
+
+/// The coordinate at `part` of `whole` of the way from `a` to `b`, in µm, rounded to nearest, half away
+/// from `a`.
+pub fn way(a: i32, b: i32, part: i64, whole: i64) -> i32
+    requires part_from { pos 0 ≤ℤ part }
+    requires part_to { part ≤ℤ whole }
+    requires some { pos 0 <ℤ whole }
+    requires small { unsigned_abs whole < 2 ^ 32 }
+    ensures { result ≡ way_of a b part whole }
+{
+    (a as i128 + round_div(product(step(a, b), part), whole as i128)) as i32
 }
 
 /// The difference of two products, in µm².

@@ -33,7 +33,7 @@ fn a_gap_of_10_mm_is_closed(rt: HostRuntime) -> Result<(), Fail> {
     let points = square_with_end(10000);
     let edges = path(points);
     let stitched = stitch(rt.alloc(), &edges)?;
-    assert_eq!(rt; stitched.dropped, 0);
+    assert_eq!(rt; stitched.open_outlines, 0);
     assert_eq!(rt; stitched.loops.loops().len(), 1);
     assert_eq!(rt; stitched.loops.loops()[0].points(), points.as_slice());
     let chains = link(rt.alloc(), &edges)?;
@@ -47,7 +47,7 @@ fn a_wider_gap_stays_open(rt: HostRuntime) -> Result<(), Fail> {
     let points = square_with_end(10001);
     let edges = path(points);
     let stitched = stitch(rt.alloc(), &edges)?;
-    assert_eq!(rt; stitched.dropped, 1);
+    assert_eq!(rt; stitched.open_outlines, 1);
     assert_eq!(rt; stitched.loops.loops().len(), 0);
     let chains = link(rt.alloc(), &edges)?;
     assert_eq!(rt; chains.closed.loops().len(), 0);
@@ -73,7 +73,7 @@ fn two_halves_become_one_loop(rt: HostRuntime) -> Result<(), Fail> {
         },
     ];
     let stitched = stitch(rt.alloc(), &edges)?;
-    assert_eq!(rt; stitched.dropped, 0);
+    assert_eq!(rt; stitched.open_outlines, 0);
     assert_eq!(rt; stitched.loops.loops().len(), 1);
     assert_eq!(rt;
         stitched.loops.loops()[0].points(),
@@ -116,7 +116,11 @@ fn all_pairs_tried_each_turn_give_the_same(rt: HostRuntime) -> Result<(), Fail> 
         let stitched = stitch(rt.alloc(), &edges)?;
         let chains = link(rt.alloc(), &edges)?;
         let (loops, open) = plain::stitched(rt.alloc(), &chains.closed, &chains.loose)?;
-        assert_eq!(rt; stitched.dropped as usize, open.loops().len(), "at {seed}");
+        assert_eq!(rt;
+            stitched.open_outlines as usize,
+            open.loops().len(),
+            "at {seed}"
+        );
         let mut kept = stitched.loops.loops().iter();
         for l in loops.loops() {
             if l.points().len() >= 3 {

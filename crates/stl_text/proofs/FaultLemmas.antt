@@ -3,9 +3,9 @@ use Rattle.std.proofs.Common.{ℕ, zero, suc, ◌≡◌, ◌<◌, ◌≤◌, ◌
 use Rattle.std.proofs.lemmas.List.{take-append-drop, take-take, take_all, length_push, length-drop}
 use Rattle.slice_base.specs.declared.points.Tri.{Tri}
 use Rattle.stl_text.specs.declared.lines.Line.{Line}
-use Rattle.stl_text.specs.declared.places.Place.{Place}
-use Rattle.stl_text.specs.declared.places.Place.TheVariants.{InSolid}
-use Rattle.stl_text.specs.declared.places.Step.TheVariants.{To, Whole, Bad}
+use Rattle.stl_text.specs.declared.states.State.{State}
+use Rattle.stl_text.specs.declared.states.State.TheVariants.{InSolid}
+use Rattle.stl_text.specs.declared.states.Step.TheVariants.{To, Whole, Bad}
 use Rattle.stl_text.specs.declared.gathered.Gathered.{Gathered}
 use Rattle.stl_text.specs.Lines.{read_lines}
 use Rattle.stl_text.specs.Mesh.{HasFacets, Begins, IsFault}
@@ -41,9 +41,9 @@ front_begins ls i k s h le =
     prefix_of_run (run (Some start) (take k ls)) (take k ls) (drop k (take i ls)) s refl (ap (run (Some start)) e ∙ h)
 
 -- where the reader stands after n lines, and what it has gathered
-pub record Stands (bytes : List ℕ) (n : ℕ) (place : Place) (g : Gathered) : Type 0 where
+pub record Stands (bytes : List ℕ) (n : ℕ) (state : State) (g : Gathered) : Type 0 where
   pub facets : List Tri
-  pub ran : run (Some start) (take n (read_lines bytes)) ≡ Some (record { place = place; facets = facets })
+  pub ran : run (Some start) (take n (read_lines bytes)) ≡ Some (record { state = state; facets = facets })
   pub gathers : Gathers facets g
   pub few : length facets ≤ n
   pub within : n ≤ length (read_lines bytes)
@@ -51,11 +51,11 @@ pub record Stands (bytes : List ℕ) (n : ℕ) (place : Place) (g : Gathered) : 
 run-more : (ls : List Line) (n : ℕ) (s : Stand) (l : Line) → take (n + 1) ls ≡ take n ls ++ l ∷ [] → run (Some start) (take n ls) ≡ Some s → run (Some start) (take (n + 1) ls) ≡ then_step (Some s) l
 run-more ls n s l front h = ap (run (Some start)) front ∙ (run-append (Some start) (take n ls) (l ∷ []) ∙ ap (λ (o : Option Stand). then_step o l) h)
 
-module _ (bytes : List ℕ) (n : ℕ) (place : Place) (g : Gathered) (l : Line) (more : List Line) (s : Stands bytes n place g) (left : drop n (read_lines bytes) ≡ l ∷ more) where
+module _ (bytes : List ℕ) (n : ℕ) (state : State) (g : Gathered) (l : Line) (more : List Line) (s : Stands bytes n state g) (left : drop n (read_lines bytes) ≡ l ∷ more) where
   abbrev stood : Stand
-  stood = record { place = place; facets = s.facets }
+  stood = record { state = state; facets = s.facets }
 
-  pub stands_next : (q : Place) → step_of place l ≡ To q → Stands bytes (n + 1) q g
+  pub stands_next : (q : State) → step_of state l ≡ To q → Stands bytes (n + 1) q g
   stands_next q e =
       let c = cut n (read_lines bytes) l more left in
       record {
@@ -66,7 +66,7 @@ module _ (bytes : List ℕ) (n : ℕ) (place : Place) (g : Gathered) (l : Line) 
         within = omega (arith, c.within);
       }
 
-  pub stands_whole : (t : Tri) (h : Gathered) → step_of place l ≡ Whole t → ((facets : List Tri) → Gathers facets g → Gathers (facets ++ t ∷ []) h) → Stands bytes (n + 1) InSolid h
+  pub stands_whole : (t : Tri) (h : Gathered) → step_of state l ≡ Whole t → ((facets : List Tri) → Gathers facets g → Gathers (facets ++ t ∷ []) h) → Stands bytes (n + 1) InSolid h
   stands_whole t h e takes =
       let c = cut n (read_lines bytes) l more left in
       record {
@@ -77,7 +77,7 @@ module _ (bytes : List ℕ) (n : ℕ) (place : Place) (g : Gathered) (l : Line) 
         within = omega (arith, c.within);
       }
 
-  pub fault_here : step_of place l ≡ Bad → IsFault bytes (n + 1)
+  pub fault_here : step_of state l ≡ Bad → IsFault bytes (n + 1)
   fault_here e =
       let c = cut n (read_lines bytes) l more left in
       let none : run (Some start) (take (n + 1) (read_lines bytes)) ≡ None = run-more (read_lines bytes) n stood l c.front s.ran ∙ ap (stand_after s.facets) e in
@@ -94,19 +94,19 @@ all_read bytes [] n left none =
     omega (arith, e, length-drop n (read_lines bytes))
 all_read bytes (b ∷ rest) n left none = absurd (omega arith)
 
-all_ran : (bytes : List ℕ) (n : ℕ) (place : Place) (g : Gathered) (s : Stands bytes n place g) → length (read_lines bytes) ≤ n → run (Some start) (read_lines bytes) ≡ Some (record { place = place; facets = s.facets })
-all_ran bytes n place g s all = ap (run (Some start)) (sym (take_all n (read_lines bytes) all)) ∙ s.ran
+all_ran : (bytes : List ℕ) (n : ℕ) (state : State) (g : Gathered) (s : Stands bytes n state g) → length (read_lines bytes) ≤ n → run (Some start) (read_lines bytes) ≡ Some (record { state = state; facets = s.facets })
+all_ran bytes n state g s all = ap (run (Some start)) (sym (take_all n (read_lines bytes) all)) ∙ s.ran
 
-pub text_at_end : (bytes : List ℕ) (n : ℕ) (place : Place) (g : Gathered) (s : Stands bytes n place g) → length (read_lines bytes) ≤ n → is_end place ≡ true → HasFacets bytes s.facets
-text_at_end bytes n place g s all e = text_from_run (read_lines bytes) (record { place = place; facets = s.facets }) (all_ran bytes n place g s all) e
+pub text_at_end : (bytes : List ℕ) (n : ℕ) (state : State) (g : Gathered) (s : Stands bytes n state g) → length (read_lines bytes) ≤ n → is_end state ≡ true → HasFacets bytes s.facets
+text_at_end bytes n state g s all e = text_from_run (read_lines bytes) (record { state = state; facets = s.facets }) (all_ran bytes n state g s all) e
 
-pub fault_at_end : (bytes : List ℕ) (n : ℕ) (place : Place) (g : Gathered) (s : Stands bytes n place g) → length (read_lines bytes) ≤ n → is_end place ≡ false → IsFault bytes (n + 1)
-fault_at_end bytes n place g s all e =
-    let stood : Stand = record { place = place; facets = s.facets } in
+pub fault_at_end : (bytes : List ℕ) (n : ℕ) (state : State) (g : Gathered) (s : Stands bytes n state g) → length (read_lines bytes) ≤ n → is_end state ≡ false → IsFault bytes (n + 1)
+fault_at_end bytes n state g s all e =
+    let stood : Stand = record { state = state; facets = s.facets } in
     record {
       before = λ k below. front_begins (read_lines bytes) n k stood s.ran (omega arith);
       here = λ within. absurd (omega arith);
-      end = λ past. (omega (arith, s.within), λ ts. no_text (read_lines bytes) stood ts (all_ran bytes n place g s all) e);
+      end = λ past. (omega (arith, s.within), λ ts. no_text (read_lines bytes) stood ts (all_ran bytes n state g s all) e);
     }
 
 -- a text without a fault
@@ -121,7 +121,7 @@ no_fault bytes ts n text f = by_place (cases n (length (read_lines bytes)))
         let r = ran_text (read_lines bytes) ts text in
         let m = length (read_lines bytes) in
         let whole : take m (read_lines bytes) ≡ read_lines bytes = take_all m (read_lines bytes) (omega arith) in
-        f.here low (front_begins (read_lines bytes) m n (record { place = r.place; facets = ts }) (ap (run (Some start)) whole ∙ r.ran) low)
+        f.here low (front_begins (read_lines bytes) m n (record { state = r.state; facets = ts }) (ap (run (Some start)) whole ∙ r.ran) low)
     by_place (inr high) = (f.end high).1 ts text
 
 later : (bytes : List ℕ) (n m : ℕ) → IsFault bytes n → IsFault bytes m → n < m → ⊥

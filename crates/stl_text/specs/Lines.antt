@@ -1,5 +1,5 @@
 -- What a line of an STL text says.
-use Rattle.std.specs.Prelude.{ℤ, Bool, true, false, List, [], ◌∷◌, map, Option, Some, None, codes, nat_le, unsigned_abs, if◌then◌else◌}
+use Rattle.std.specs.Prelude.{ℤ, Bool, true, false, List, [], ◌∷◌, map, Option, Some, None, codes, nat_le, unsigned_abs, cond}
 use Rattle.slice_base.specs.Shapes.{Bytes}
 use Rattle.slice_base.specs.declared.points.Pt3.{Pt3}
 use Rattle.slice_base.specs.Decimal.{decimal_of}
@@ -10,7 +10,7 @@ use Rattle.stl_text.specs.Words.{lines_of, words_of, is_keyword}
 -- a number of µm that lies in the range of coordinates
 abbrev pub in_range : Option ℤ → Option ℤ
 in_range None = None
-in_range (Some v) = if nat_le (unsigned_abs v) 1000000000 then Some v else None
+in_range (Some v) = cond (nat_le (unsigned_abs v) 1000000000) (Some v) None
 
 -- a decimal in mm, as whole µm
 abbrev pub coordinate_of : Bytes → Option ℤ
@@ -44,14 +44,14 @@ no_words (word ∷ words) = false
 -- what a line says whose first word is this one, by the words behind it
 abbrev pub line_by : Bytes → List Bytes → Line
 line_by word words =
-    if is_keyword word (codes "vertex") then vertex_of (corner_of words)
-    else (if is_keyword word (codes "facet") then Facet
-    else (if is_keyword word (codes "outer") then (if is_loop words then OuterLoop else Other)
-    else (if is_keyword word (codes "endloop") then (if no_words words then EndLoop else Other)
-    else (if is_keyword word (codes "endfacet") then (if no_words words then EndFacet else Other)
-    else (if is_keyword word (codes "solid") then Solid
-    else (if is_keyword word (codes "endsolid") then EndSolid
-    else Other))))))
+    cond (is_keyword word (codes "vertex")) (vertex_of (corner_of words))
+    (cond (is_keyword word (codes "facet")) Facet
+    (cond (is_keyword word (codes "outer")) (cond (is_loop words) OuterLoop Other)
+    (cond (is_keyword word (codes "endloop")) (cond (no_words words) EndLoop Other)
+    (cond (is_keyword word (codes "endfacet")) (cond (no_words words) EndFacet Other)
+    (cond (is_keyword word (codes "solid")) Solid
+    (cond (is_keyword word (codes "endsolid")) EndSolid
+    Other))))))
 
 -- what the words of a line say
 abbrev pub line_of : List Bytes → Line

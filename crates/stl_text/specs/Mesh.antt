@@ -17,7 +17,9 @@ pub data Solids : Bool → List Line → List Tri → Type 0 where
   left_open : Solids true [] []
   solid : {lines : List Line} {facets : List Tri} → Solids true lines facets → Solids false (Solid ∷ lines) facets
   facet : {a b c : Pt3} {lines : List Line} {facets : List Tri} → Solids true lines facets
-      → Solids true (Facet ∷ OuterLoop ∷ Vertex a ∷ Vertex b ∷ Vertex c ∷ EndLoop ∷ EndFacet ∷ lines) (record { a = a; b = b; c = c } ∷ facets)
+      → Solids true
+      (Facet ∷ OuterLoop ∷ Vertex a ∷ Vertex b ∷ Vertex c ∷ EndLoop ∷ EndFacet ∷ lines)
+      (record { a = a; b = b; c = c } ∷ facets)
   endsolid : {lines : List Line} {facets : List Tri} → Solids false lines facets → Solids true (EndSolid ∷ lines) facets
 
 -- the line isn't blank
@@ -44,7 +46,8 @@ pub record Begins (lines : List Line) : Type 0 where
 pub record IsFault (bytes : Bytes) (n : ℕ) : Type 0 where
   pub before : (k : ℕ) → k < n → Begins (take k (read_lines bytes))
   pub here : n ≤ length (read_lines bytes) → ¬ (Begins (take n (read_lines bytes)))
-  pub end : length (read_lines bytes) < n → (n ≡ length (read_lines bytes) + 1) × ((facets : List Tri) → ¬ (HasFacets bytes facets))
+  pub end : length (read_lines bytes) < n
+      → (n ≡ length (read_lines bytes) + 1) × ((facets : List Tri) → ¬ (HasFacets bytes facets))
 
 -- two corners are one point
 abbrev pub same_corner : Pt3 → Pt3 → Bool

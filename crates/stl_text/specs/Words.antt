@@ -1,5 +1,5 @@
 -- How a text is cut into lines, and a line into words.
-use Rattle.std.specs.Prelude.{ℕ, ◌==◌, ◌||◌, Bool, true, List, [], ◌∷◌, if◌then◌else◌}
+use Rattle.std.specs.Prelude.{ℕ, ◌==◌, ◌||◌, Bool, true, List, [], ◌∷◌, cond}
 use Rattle.std.specs.Str.{str_eq_ignore_ascii_case}
 use Rattle.slice_base.specs.Shapes.{Bytes}
 
@@ -11,7 +11,7 @@ onto_first b (piece ∷ pieces) = (b ∷ piece) ∷ pieces
 -- the lines of a text: cut at line feeds, and behind the last one a line where there are bytes
 abbrev pub lines_of : Bytes → List Bytes
 lines_of [] = []
-lines_of (b ∷ bs) = if b == 10 then [] ∷ lines_of bs else onto_first b (lines_of bs)
+lines_of (b ∷ bs) = cond (b == 10) ([] ∷ lines_of bs) (onto_first b (lines_of bs))
 
 -- space, tab and carriage return
 abbrev pub is_blank : ℕ → Bool
@@ -26,8 +26,8 @@ begins_blank (b ∷ bs) = is_blank b
 abbrev pub words_of : Bytes → List Bytes
 words_of [] = []
 words_of (b ∷ bs) =
-    if is_blank b then words_of bs
-    else (if begins_blank bs then (b ∷ []) ∷ words_of bs else onto_first b (words_of bs))
+    cond (is_blank b) (words_of bs)
+    (cond (begins_blank bs) ((b ∷ []) ∷ words_of bs) (onto_first b (words_of bs)))
 
 -- the word is this keyword, in any ASCII case
 abbrev pub is_keyword : Bytes → Bytes → Bool

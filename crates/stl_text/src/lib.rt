@@ -7,8 +7,8 @@ mod faults;
 mod gathered;
 mod laws;
 mod lines;
-mod places;
 mod reader;
+mod states;
 #[cfg(test)]
 mod tests;
 mod words;

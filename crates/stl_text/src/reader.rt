@@ -9,7 +9,7 @@ ghost use Rattle.stl_text.specs.Inner.Gathers.{Gathers, IsAnswer};
 use crate::faults::StlFault;
 use crate::gathered::{Gathered, MOST_TRIANGLES};
 use crate::lines::line_of;
-use crate::places::{Place, Step, is_end, step_of};
+use crate::states::{State, Step, is_end, step_of};
 use crate::words::split_line;
 use slice_base::Tri;
 use std::alloc::Global;
@@ -26,21 +26,21 @@ fn gather(bytes: &[u8], gathered: &mut Gathered) -> Result<(), u32>
 {
     let mut rest = bytes;
     let mut number: u32 = 0;
-    let mut place = Place::Outside;
+    let mut state = State::Outside;
     'lines: while !rest.is_empty() {
         let (line, after) = split_line(rest);
         rest = after;
         number += 1;
-        match step_of(place, line_of(line)) {
+        match step_of(state, line_of(line)) {
             Step::Bad => return Err(number),
-            Step::To(next) => place = next,
+            Step::To(next) => state = next,
             Step::Whole(facet) => {
                 gathered.take(facet);
-                place = Place::InSolid;
+                state = State::InSolid;
             }
         }
     }
-    if is_end(place) {
+    if is_end(state) {
         Ok(())
     } else {
         Err(number + 1)

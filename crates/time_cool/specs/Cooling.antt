@@ -49,7 +49,8 @@ nothing = record { printing = 0; travelling = 0 }
 abbrev pub spent_on_paths : ExtruderSettings → Option Pt → List Path → Spent
 spent_on_paths e from [] = nothing
 spent_on_paths e from (p ∷ ps) =
-    plus (record { printing = print_time p; travelling = travel_time e from p }) (spent_on_paths e (end_of from p.points) ps)
+    plus (record { printing = print_time p; travelling = travel_time e from p })
+    (spent_on_paths e (end_of from p.points) ps)
 
 -- what the paths of an extruder take
 abbrev pub spent_on_plan : Settings → Option Pt → ExtruderPlan → Spent

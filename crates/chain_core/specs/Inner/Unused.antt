@@ -35,11 +35,15 @@ IsFromAt es i p k = (i ≤ k) × (start_of es k ≡ p)
 
 -- each edge from the one at i on knows the next one that starts where it does
 abbrev pub KnowNext : List Edge → ℕ → List (Option ℕ) → Type 0
-KnowNext es i after = (k : ℕ) → i ≤ k → k < length es → IsLeast (IsFromAt es (k + 1) (start_of es k)) (length es) (slice_index_or after k None)
+KnowNext es i after =
+    (k : ℕ) → i ≤ k → k < length es
+    → IsLeast (IsFromAt es (k + 1) (start_of es k)) (length es) (slice_index_or after k None)
 
 -- of the edges that start at one point none is used before the ones in front of it
 abbrev pub AreInTurn : List Edge → List Bool → Type 0
-AreInTurn es us = (i j : ℕ) → i < j → j < length es → start_of es j ≡ start_of es i → slice_index_or us i true ≡ false → slice_index_or us j true ≡ false
+AreInTurn es us =
+    (i j : ℕ) → i < j → j < length es → start_of es j ≡ start_of es i → slice_index_or us i true ≡ false
+    → slice_index_or us j true ≡ false
 
 -- the index agrees with the edges and the marks
 pub record IsIndexed (es : List Edge) (u : Unused) : Type 0 where

@@ -14,7 +14,8 @@ pub record Covers (s t : Span) : Type 0 where
 
 -- the span holds those from i on, up to 16 of them
 abbrev pub IsHull : Span → List Span → ℕ → Type 0
-IsHull hull spans from = (i : ℕ) (d : Span) → from ≤ i → i < from + 16 → i < length spans → Covers hull (slice_index_or spans i d)
+IsHull hull spans from =
+    (i : ℕ) (d : Span) → from ≤ i → i < from + 16 → i < length spans → Covers hull (slice_index_or spans i d)
 
 -- the block at k holds the spans from 16 k on, up to 16 of them
 pub record Hulls (spans blocks : List Span) : Type 0 where

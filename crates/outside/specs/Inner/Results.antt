@@ -1,5 +1,5 @@
 -- What is told of a read.
-use Rattle.std.specs.Prelude.{ℕ, nat_le, length, if◌then◌else◌, Result, Ok, Err}
+use Rattle.std.specs.Prelude.{ℕ, nat_le, length, cond, Result, Ok, Err}
 use Rattle.std.specs.Global.{Vec}
 use Rattle.std.specs.IoError.{error_kind}
 use Rattle.std.specs.declared.io.Error.{Error}
@@ -16,4 +16,4 @@ cause_of _ = Failed
 -- what a read tells of the bytes that a file gave, of which a limit at most is wanted
 abbrev pub read_result_of : Result ℕ Error → Vec ℕ → ℕ → Result (Vec ℕ) ReadNo
 read_result_of (Err e) bytes limit = Err (cause_of (error_kind e))
-read_result_of (Ok n) bytes limit = if nat_le (length bytes.items) limit then Ok bytes else Err TooLong
+read_result_of (Ok n) bytes limit = cond (nat_le (length bytes.items) limit) (Ok bytes) (Err TooLong)

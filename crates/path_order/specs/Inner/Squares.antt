@@ -52,7 +52,8 @@ pub record IsGrid (g : Grid) : Type 0 where
 abbrev pub IsFound : List Bool → Pt → List Start → Option Choice → Type 0
 IsFound gone at starts None = Unit {0}
 IsFound gone at starts (Some c) =
-    (k : ℕ) × (k < length starts) × (is_gone gone (start_of starts k).piece ≡ false) × (c ≡ choice_from at (start_of starts k))
+    (k : ℕ) × (k < length starts) × (is_gone gone (start_of starts k).piece ≡ false)
+    × (c ≡ choice_from at (start_of starts k))
 
 -- something was found, and the start doesn't come before it
 abbrev pub Precedes : Pt → Option Choice → Start → Type 0

@@ -32,4 +32,6 @@ HasNoGap slots from to = (g : Gap) → g.from ≡ from → g.to ≡ to → IsGap
 
 -- once a gap is closed: the one chain is lengthened, and the other one is gone; of one chain nothing is left
 abbrev pub closed : Gap → Loops → Loops
-closed g slots = slice_set (slice_set slots g.from (lengthened g (slice_index_or slots g.from []) (slice_index_or slots g.to []))) g.to []
+closed g slots =
+    slice_set (slice_set slots g.from (lengthened g (slice_index_or slots g.from []) (slice_index_or slots g.to [])))
+    g.to []

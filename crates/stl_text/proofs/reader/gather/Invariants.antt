@@ -5,7 +5,7 @@ use Rattle.stl_text.proofs.reader.gather.Given as goal
 
 abbrev pub invariant-lines : goal.invariant-lines
 invariant-lines l = record {
-  stands : Stands l.bytes l.number l.place l.gathered;
+  stands : Stands l.bytes l.number l.state l.gathered;
   left : drop l.number (read_lines l.bytes) ≡ read_lines l.rest;
   counted : l.number + length l.rest ≤ length l.bytes;
 }
