@@ -1,15 +1,16 @@
 -- Edges added to rays, one by one.
-use Rattle.std.proofs.Common.{◌≡◌, ◌<◌, ◌≤◌, ◌+◌, ◌^◌, ℕ, zero, suc, ℤ, pos, ◌≤ℤ◌, ◌+ℤ◌, ◌&&◌, Bool, true, false, cond, int_lt, List, [], ◌∷◌, length, get_or, set, drop, inl, inr, ◌⊎◌, arith, refl, sym, ap, ◌∙◌, subst}
+use Rattle.std.proofs.Common.{◌≡◌, ◌<◌, ◌≤◌, ◌+◌, ℕ, zero, suc, ℤ, pos, ◌≤ℤ◌, ◌+ℤ◌, ◌&&◌, Bool, true, false, cond, int_lt, List, [], ◌∷◌, length, get_or, drop, inl, inr, ◌⊎◌, arith, refl, sym, ap, ◌∙◌, subst}
 use Rattle.std.specs.Prelude.{int_le}
 use Rattle.std.specs.declared.cmp.Ordering.TheVariants.{Less, Equal, Greater}
-use Rattle.std.specs.Ordering.{int_cmp, is_lt}
+use Rattle.std.specs.declared.cmp.Ordering.{Ordering}
+use Rattle.std.specs.Ordering.{int_cmp, is_lt, ordering_then}
+use Rattle.std.specs.Cmp.{IsTotalOrder, int_cmp_total, on_total, then_total}
 use Rattle.std.specs.List.{All, Contains}
 use Rattle.std.specs.List.Sorted.{IsPermutation, IsPartitionedBy}
 use Rattle.std.specs.Int.RustNames.{unsigned_abs}
 use Rattle.std.proofs.lemmas.Int.{ints}
 use Rattle.std.proofs.lemmas.Bool.{and_parts, false_from_ne_true}
 use Rattle.std.proofs.lemmas.List.Elements.{All-nil, All-cons}
-use Rattle.std.proofs.lemmas.List.{get_or-set_same, get_or-set_other}
 use Rattle.std.proofs.lemmas.List.Sorted.{Contains-permutation}
 use Rattle.std.proofs.Math.IntN.{+ℤ_idr}
 use Rattle.slice_base.specs.declared.points.Pt.{Pt}
@@ -22,7 +23,7 @@ use Rattle.clip_core.specs.declared.rays.Ray.{Ray}
 use Rattle.clip_core.specs.Bundles.{is_lower, bundle_of, same_bundle}
 use Rattle.clip_core.specs.Windings.{share_of, none, plus, tally_of, is_of, is_right_of, reaches, stands_right, net_of, sum_of}
 use Rattle.clip_core.specs.Inner.Small.{AreSmall}
-use Rattle.clip_core.specs.Inner.Rays.{nowhere, twice_middle, rays_from, is_under, is_up_to, ray_with, AreRising, IsSmallRay, IsBare, IsFull, IsRayOf, IsTold, HaveRays}
+use Rattle.clip_core.specs.Inner.Rays.{nowhere, twice_middle, order_of, rays_from, is_under, is_up_to, ray_with, AreRising, IsSmallRay, IsBare, IsFull, IsRayOf, IsTold, HaveRays}
 use Rattle.clip_core.proofs.Tallies.{nothing, both, plus-none, tally_of-step, tally_of-end}
 
 -- the low end of a bundle isn't the higher one
@@ -36,14 +37,14 @@ bundle-rises m b is = subst (λ (c : Bundle). c.low.y ≤ℤ c.high.y) (sym is) 
 
 -- an edge that misses a ray changes nothing
 
-plus-right : (w : Windings) → plus w none ≡ w
+pub plus-right : (w : Windings) → plus w none ≡ w
 plus-right w = both _ _ _ _ (+ℤ_idr w.first) (+ℤ_idr w.second)
 
-missed : (w s : Windings) (t : Bool) → t ≡ false → plus w (cond t s none) ≡ w
+pub missed : (w s : Windings) (t : Bool) → t ≡ false → plus w (cond t s none) ≡ w
 missed w s false h = plus-right w
 missed w s true h = absurd (cc)
 
-ray-same : (f : Bundle) (s : Windings) (r : Ray) → same_bundle f r.bundle ≡ false → (reaches f r.bundle && stands_right f r.bundle) ≡ false → r ≡ ray_with f s r
+pub ray-same : (f : Bundle) (s : Windings) (r : Ray) → same_bundle f r.bundle ≡ false → (reaches f r.bundle && stands_right f r.bundle) ≡ false → r ≡ ray_with f s r
 ray-same f s r g h =
     let p = sym (missed r.net s (same_bundle f r.bundle) g) in
     let q = sym (missed r.sum s (reaches f r.bundle && stands_right f r.bundle) h) in
@@ -54,7 +55,7 @@ not-first false b h = refl
 not-first true b h = absurd (cc)
 
 -- the heights of a bundle with the same ends
-same-heights : (f b : Bundle) → same_bundle f b ≡ true → (f.low.y ≡ b.low.y) × (f.high.y ≡ b.high.y)
+pub same-heights : (f b : Bundle) → same_bundle f b ≡ true → (f.low.y ≡ b.low.y) × (f.high.y ≡ b.high.y)
 same-heights f b h =
     let parts = and_parts (same_point f.low b.low) (same_point f.high b.high) h in
     (ap (λ (p : Pt). p.y) (same_point-is f.low b.low parts.0), ap (λ (p : Pt). p.y) (same_point-is f.high b.high parts.1))
@@ -117,7 +118,7 @@ ray-small n f s r g h = record {
   sum_small = small-more n r.sum s (reaches f r.bundle && stands_right f r.bundle) g.sum_small h;
 }
 
-wider : (n k : ℕ) (w : Windings) → n ≤ k → AreSmall n w → AreSmall k w
+pub wider : (n k : ℕ) (w : Windings) → n ≤ k → AreSmall n w → AreSmall k w
 wider n k w le h = let a = h.first_small in let b = h.second_small in record { first_small = omega arith; second_small = omega arith }
 
 pub ray-wider : (n k : ℕ) (r : Ray) → n ≤ k → IsSmallRay n r → IsSmallRay k r
@@ -131,7 +132,7 @@ pub record IsSoFar (n : ℕ) (rest whole : List Marked) (bare r : Ray) : Type 0 
   pub sum : plus r.sum (tally_of (is_right_of bare.bundle) rest) ≡ sum_of whole bare.bundle
   pub small : IsSmallRay n r
 
-small-none : (w : Windings) → w ≡ none → AreSmall 0 w
+pub small-none : (w : Windings) → w ≡ none → AreSmall 0 w
 small-none w is = record { first_small = subst (λ (v : Windings). unsigned_abs v.first ≤ 0) (sym is) (omega arith); second_small = subst (λ (v : Windings). unsigned_abs v.second ≤ 0) (sym is) (omega arith) }
 
 from-none : (w v : Windings) → w ≡ none → plus w v ≡ v
@@ -220,7 +221,7 @@ full-told all bundles bare r g h = record {
   small = h.small;
 }
 
-length-rays : (i : ℕ) (bs : List Bundle) → length (rays_from i bs) ≡ length bs
+pub length-rays : (i : ℕ) (bs : List Bundle) → length (rays_from i bs) ≡ length bs
 length-rays i [] = refl
 length-rays i (b ∷ bs) = ap suc (length-rays (suc i) bs)
 
@@ -235,17 +236,22 @@ ray-placed k bs d below = let e = length-rays 0 bs in let f = placed-from 0 k bs
     zero-plus : (n : ℕ) → 0 + n ≡ n
     zero-plus n = omega arith
 
-cmp-lt : (l g : Bool) → is_lt (cond l Less (cond g Greater Equal)) ≡ l
-cmp-lt true g = refl
-cmp-lt false true = refl
-cmp-lt false false = refl
-
 le-not-lt : (m n : ℤ) → int_lt n m ≡ false → m ≤ℤ n
 le-not-lt m n h = grind (arith, ints)
 
--- what a sort by heights says of two of them
-pub not-less : (m n : ℤ) → is_lt (int_cmp n m) ≡ false → m ≤ℤ n
-not-less m n h = le-not-lt m n (sym (cmp-lt (int_lt n m) (int_lt m n)) ∙ h)
+pub order_of-total : IsTotalOrder order_of
+order_of-total = then_total (on_total (λ r. twice_middle r.bundle) int_cmp_total) (on_total (λ r. r.bundle.low.x +ℤ r.bundle.high.x) int_cmp_total)
+
+first-not : (l g : Bool) (o : Ordering) → is_lt (ordering_then (cond l Less (cond g Greater Equal)) o) ≡ false → l ≡ false
+first-not true g o h = absurd (cc)
+first-not false g o h = refl
+
+-- what the order says of the heights
+pub not-later : (r s : Ray) → is_lt (order_of s r) ≡ false → twice_middle r.bundle ≤ℤ twice_middle s.bundle
+not-later r s h =
+    let m = twice_middle r.bundle in
+    let n = twice_middle s.bundle in
+    le-not-lt m n (first-not (int_lt n m) (int_lt m n) (int_cmp (s.bundle.low.x +ℤ s.bundle.high.x) (r.bundle.low.x +ℤ r.bundle.high.x)) h)
 
 -- within a list the default doesn't matter
 pub any-default : (xs : List Ray) (i : ℕ) (d e : Ray) → i < length xs → get_or xs i d ≡ get_or xs i e
@@ -253,32 +259,7 @@ any-default [] i d e below = absurd (omega arith)
 any-default (x ∷ xs) zero d e below = refl
 any-default (x ∷ xs) (suc i) d e below = any-default xs i d e (omega arith)
 
-below-or-last : (k i : ℕ) → k < i + 1 → (k < i) ⊎ (k ≡ i)
-below-or-last k zero lt = inr (omega arith)
-below-or-last zero (suc i) lt = inl (omega arith)
-below-or-last (suc k) (suc i) lt = one-up (below-or-last k i (omega arith))
-  where
-    one-up : (k < i) ⊎ (k ≡ i) → (suc k < suc i) ⊎ (suc k ≡ suc i)
-    one-up (inl h) = inl (omega arith)
-    one-up (inr h) = inr (ap suc h)
-
--- one ray more on the walk
-pub walk-done : (f : Bundle) (s : Windings) (old rays : List Ray) (i : ℕ) (new e : Ray) → i < length rays → new ≡ ray_with f s (get_or rays i e) → ((k : ℕ) (d : Ray) → i ≤ k → k < length rays → get_or rays k d ≡ get_or old k d) → ((k : ℕ) (d : Ray) → k < i → get_or rays k d ≡ ray_with f s (get_or old k d)) → (k : ℕ) (d : Ray) → k < i + 1 → get_or (set rays i new) k d ≡ ray_with f s (get_or old k d)
-walk-done f s old rays i new e below is left done k d lt = pick (below-or-last k i lt)
-  where
-    pick : (k < i) ⊎ (k ≡ i) → get_or (set rays i new) k d ≡ ray_with f s (get_or old k d)
-    pick (inl h) = get_or-set_other rays i k new d (λ e'. let g : k < k = omega arith in omega arith) ∙ done k d h
-    pick (inr h) =
-        ap (λ (j : ℕ). get_or (set rays i new) j d) h
-        ∙ (get_or-set_same rays i new d below
-        ∙ (is
-        ∙ (ap (λ (r : Ray). ray_with f s r) (any-default rays i e d below ∙ left i d (omega arith) below)
-        ∙ ap (λ (j : ℕ). ray_with f s (get_or old j d)) (sym h))))
-
-pub walk-left : (old rays : List Ray) (i : ℕ) (new : Ray) → ((k : ℕ) (d : Ray) → i ≤ k → k < length rays → get_or rays k d ≡ get_or old k d) → (k : ℕ) (d : Ray) → i + 1 ≤ k → k < length rays → get_or (set rays i new) k d ≡ get_or old k d
-walk-left old rays i new left k d le below = get_or-set_other rays i k new d (λ e. omega arith) ∙ left k d (omega arith) below
-
-below-or-not : (k i : ℕ) → (k < i) ⊎ (i ≤ k)
+pub below-or-not : (k i : ℕ) → (k < i) ⊎ (i ≤ k)
 below-or-not k zero = inr (omega arith)
 below-or-not zero (suc i) = inl (omega arith)
 below-or-not (suc k) (suc i) = one-up (below-or-not k i)
@@ -286,28 +267,6 @@ below-or-not (suc k) (suc i) = one-up (below-or-not k i)
     one-up : (k < i) ⊎ (i ≤ k) → (suc k < suc i) ⊎ (suc i ≤ suc k)
     one-up (inl h) = inl (omega arith)
     one-up (inr h) = inr (omega arith)
-
--- where the walk stops at a ray above the edge
-pub walk-stops : (f : Bundle) (s : Windings) (old rays : List Ray) (i : ℕ) (e : Ray) → f.low.y ≤ℤ f.high.y → AreRising old → length rays ≡ length old → i < length rays → is_up_to f (get_or rays i e) ≡ false → ((k : ℕ) (d : Ray) → i ≤ k → k < length rays → get_or rays k d ≡ get_or old k d) → ((k : ℕ) (d : Ray) → k < i → get_or rays k d ≡ ray_with f s (get_or old k d)) → (k : ℕ) (d : Ray) → k < length rays → get_or rays k d ≡ ray_with f s (get_or old k d)
-walk-stops f s old rays i e rise rising len below over left done k d lt = pick (below-or-not k i)
-  where
-    pick : (k < i) ⊎ (i ≤ k) → get_or rays k d ≡ ray_with f s (get_or old k d)
-    pick (inl h) = done k d h
-    pick (inr h) =
-        let here : is_up_to f (get_or old i d) ≡ false = subst (λ (r : Ray). is_up_to f r ≡ false) (any-default rays i e d below ∙ left i d (omega arith) below) over in
-        left k d h lt ∙ above-same f s (get_or old k d) rise (above-rest f old i k d rising h (omega arith) here)
-
--- the rays on the walk are as small as they were
-pub walk-small : (n : ℕ) (old rays : List Ray) (i : ℕ) (e : Ray) → length rays ≡ length old → i < length rays → ((k : ℕ) (d : Ray) → i ≤ k → k < length rays → get_or rays k d ≡ get_or old k d) → All (IsSmallRay n) old → IsSmallRay n (get_or rays i e)
-walk-small n old rays i e len below left small = subst (λ (r : Ray). IsSmallRay n r) (sym (left i e (omega arith) below)) (small i e (omega arith))
-
--- the rays after each edge
-
-pub edges-small : (n : ℕ) (rest whole : List Marked) (bare rays : List Ray) → n ≤ 100000 → ((k : ℕ) (d : Ray) → k < length rays → IsSoFar n rest whole (get_or bare k d) (get_or rays k d)) → All (IsSmallRay (2 ^ 62)) rays
-edges-small n rest whole bare rays few so_far k d below = ray-wider n (2 ^ 62) (get_or rays k d) (omega arith) (so_far k d below).small
-
-pub edges-rising : (n : ℕ) (rest whole : List Marked) (bare rays : List Ray) → length rays ≡ length bare → AreRising bare → ((k : ℕ) (d : Ray) → k < length rays → IsSoFar n rest whole (get_or bare k d) (get_or rays k d)) → AreRising rays
-edges-rising n rest whole bare rays len rising so_far = still-rising bare rays len (λ k d below. (so_far k d below).bundle) rising
 
 -- all rays told
 pub all-told : (all : List Marked) (bundles : List Bundle) (bare rays : List Ray) → length rays ≡ length bare → All (IsBareOf bundles) bare → ((k : ℕ) (d : Ray) → k < length rays → IsFull all (get_or bare k d) (get_or rays k d)) → All (IsTold all bundles) rays
@@ -325,8 +284,3 @@ each-has all bundles bare rays len moved full k d below =
     let here : c.0 < length rays = omega (arith, c.1) in
     let f = full c.0 r here in
     (c.0, here, ap (λ (q : Ray). q.place) (any-default rays c.0 d r here) ∙ (f.place ∙ (ap (λ (q : Ray). q.place) c.2 ∙ at.1)))
-
--- at the start of the walk
-pub walk-begins : (f : Bundle) (s : Windings) (old seen : List Ray) (i : ℕ) → f.low.y ≤ℤ f.high.y → seen ≡ old → ((k : ℕ) (d : Ray) → k < i → is_under f (get_or seen k d) ≡ true) → (k : ℕ) (d : Ray) → k < i → get_or old k d ≡ ray_with f s (get_or old k d)
-walk-begins f s old seen i rise same under k d lt =
-    under-same f s (get_or old k d) rise (subst (λ (rs : List Ray). is_under f (get_or rs k d) ≡ true) same (under k d lt))

@@ -4,28 +4,28 @@ use Rattle.std.proofs.Math.IntN.{*ℤ_comm, *ℤ-zero, zero-*ℤ}
 use Rattle.std.proofs.lemmas.Int.{ints}
 use Rattle.std.proofs.lemmas.Nat.{mul-le}
 
-pp : (a b : ℤ) → pos 0 <ℤ a → pos 0 <ℤ b → pos 0 <ℤ (a *ℤ b)
+pub pp : (a b : ℤ) → pos 0 <ℤ a → pos 0 <ℤ b → pos 0 <ℤ (a *ℤ b)
 pp (pos m) (pos n) p q = let h : 1 * 1 ≤ m * n = mul-le 1 1 m n (omega (arith, ints, p)) (omega (arith, ints, q)) in omega (arith, ints, h)
 pp (pos m) (negsuc n) p q = absurd (omega (arith, ints, q))
 pp (negsuc m) b p q = absurd (omega (arith, ints, p))
 
-pn : (a b : ℤ) → pos 0 <ℤ a → b <ℤ pos 0 → (a *ℤ b) <ℤ pos 0
+pub pn : (a b : ℤ) → pos 0 <ℤ a → b <ℤ pos 0 → (a *ℤ b) <ℤ pos 0
 pn (pos m) (negsuc n) p q = let h : 1 * 1 ≤ m * suc n = mul-le 1 1 m (suc n) (omega (arith, ints, p)) (omega arith) in omega (arith, ints, h)
 pn (pos m) (pos n) p q = absurd (omega (arith, ints, q))
 pn (negsuc m) b p q = absurd (omega (arith, ints, p))
 
-nn : (a b : ℤ) → a <ℤ pos 0 → b <ℤ pos 0 → pos 0 <ℤ (a *ℤ b)
+pub nn : (a b : ℤ) → a <ℤ pos 0 → b <ℤ pos 0 → pos 0 <ℤ (a *ℤ b)
 nn (negsuc m) (negsuc n) p q = let h : 1 * 1 ≤ suc m * suc n = mul-le 1 1 (suc m) (suc n) (omega arith) (omega arith) in omega (arith, ints, h)
 nn (negsuc m) (pos n) p q = absurd (omega (arith, ints, q))
 nn (pos m) b p q = absurd (omega (arith, ints, p))
 
-np : (a b : ℤ) → a <ℤ pos 0 → pos 0 <ℤ b → (a *ℤ b) <ℤ pos 0
+pub np : (a b : ℤ) → a <ℤ pos 0 → pos 0 <ℤ b → (a *ℤ b) <ℤ pos 0
 np a b p q = rw (*ℤ_comm a b) (pn b a q p)
 
-z* : (a b : ℤ) → a ≡ pos 0 → a *ℤ b ≡ pos 0
+pub z* : (a b : ℤ) → a ≡ pos 0 → a *ℤ b ≡ pos 0
 z* a b e = ap (λ (t : ℤ). t *ℤ b) e ∙ zero-*ℤ b
 
-*z : (a b : ℤ) → b ≡ pos 0 → a *ℤ b ≡ pos 0
+pub *z : (a b : ℤ) → b ≡ pos 0 → a *ℤ b ≡ pos 0
 *z a b e = ap (λ (t : ℤ). a *ℤ t) e ∙ *ℤ-zero a
 
 abbrev pub Sign : ℤ → Type 0

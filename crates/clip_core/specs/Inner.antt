@@ -3,3 +3,5 @@ pub mod Found
 pub mod Small
 pub mod Rays
 pub mod Placed
+pub mod Hulls
+pub mod Raises

@@ -6,9 +6,11 @@
 mod areas;
 mod bundles;
 mod clipping;
+mod hulls;
 mod keeping;
 mod laws;
 mod outlines;
+mod raises;
 mod rays;
 mod tidying;
 mod windings;

@@ -1,5 +1,7 @@
 -- Bundles with their winding numbers, as far as edges were added to them.
 use Rattle.std.specs.Prelude.{ℕ, suc, ℤ, pos, ◌≡◌, ◌+ℤ◌, ◌≤◌, ◌<◌, ◌≤ℤ◌, Bool, cond, ◌&&◌, int_lt, int_le, List, [], ◌∷◌, length, slice_index_or}
+use Rattle.std.specs.declared.cmp.Ordering.{Ordering}
+use Rattle.std.specs.Ordering.{int_cmp, on, then_cmp}
 use Rattle.edge_cut.specs.declared.passes.Marked.{Marked}
 use Rattle.clip_core.specs.declared.bundles.Bundle.{Bundle}
 use Rattle.clip_core.specs.declared.windings.Windings.{Windings}
@@ -19,6 +21,10 @@ no_ray = record { bundle = nowhere; place = 0; net = none; sum = none }
 -- twice the height of the bundle's midpoint
 abbrev pub twice_middle : Bundle → ℤ
 twice_middle b = b.low.y +ℤ b.high.y
+
+-- by the heights of the midpoints, then from left to right
+abbrev pub order_of : Ray → Ray → Ordering
+order_of = then_cmp (on (λ r. twice_middle r.bundle) int_cmp) (on (λ r. r.bundle.low.x +ℤ r.bundle.high.x) int_cmp)
 
 -- the rays of these bundles, the first of which stands at i, before any edge was added
 abbrev pub rays_from : ℕ → List Bundle → List Ray
@@ -46,7 +52,9 @@ ray_with f share r = record r {
 
 -- the midpoints stand from low to high
 abbrev pub AreRising : List Ray → Type 0
-AreRising rays = (i j : ℕ) (d : Ray) → i ≤ j → j < length rays → twice_middle (slice_index_or rays i d).bundle ≤ℤ twice_middle (slice_index_or rays j d).bundle
+AreRising rays =
+    (i j : ℕ) (d : Ray) → i ≤ j → j < length rays
+    → twice_middle (slice_index_or rays i d).bundle ≤ℤ twice_middle (slice_index_or rays j d).bundle
 
 -- neither number of the ray is beyond n
 pub record IsSmallRay (n : ℕ) (r : Ray) : Type 0 where
@@ -66,14 +74,6 @@ pub record IsFull (all : List Marked) (bare full : Ray) : Type 0 where
   pub sum : full.sum ≡ sum_of all bare.bundle
   pub small : IsSmallRay 100000 full
 
--- each of these rays, with an edge more
-abbrev pub AreWith : Bundle → Windings → List Ray → List Ray → Type 0
-AreWith f share old new = (k : ℕ) (d : Ray) → k < length new → slice_index_or new k d ≡ ray_with f share (slice_index_or old k d)
-
--- each of these rays, with all these edges
-abbrev pub AreFull : List Marked → List Ray → List Ray → Type 0
-AreFull all bare full = (k : ℕ) (d : Ray) → k < length full → IsFull all (slice_index_or bare k d) (slice_index_or full k d)
-
 -- the ray is that of the bundle at its place
 pub record IsRayOf (bundles : List Bundle) (r : Ray) : Type 0 where
   pub within : r.place < length bundles
@@ -88,4 +88,5 @@ pub record IsTold (all : List Marked) (bundles : List Bundle) (r : Ray) : Type 0
 
 -- each bundle has a ray
 abbrev pub HaveRays : List Bundle → List Ray → Type 0
-HaveRays bundles rays = (k : ℕ) (d : Ray) → k < length bundles → (j : ℕ) × (j < length rays) × ((slice_index_or rays j d).place ≡ k)
+HaveRays bundles rays =
+    (k : ℕ) (d : Ray) → k < length bundles → (j : ℕ) × (j < length rays) × ((slice_index_or rays j d).place ≡ k)

@@ -1,0 +1,310 @@
+-- Midpoints in a box that an edge has wholly on one side.
+use Rattle.std.proofs.Common.{◌≡◌, ◌⊎◌, inl, inr, ℕ, ℤ, pos, ◌+ℤ◌, ◌-ℤ◌, ◌*ℤ◌, ◌≤ℤ◌, ◌<ℤ◌, Bool, true, false, cond, ◌&&◌, int_lt, List, [], ◌∷◌, ◌++◌, ◌+◌, ◌-◌, ◌*◌, ◌<◌, ◌≤◌, length, get_or, length-append, arith, refl, sym, ap, ◌∙◌, subst}
+use Rattle.std.specs.Prelude.{int_le}
+use Rattle.std.proofs.lemmas.Int.{ints}
+use Rattle.std.proofs.lemmas.Bool.{and_parts, false_from_ne_true}
+use Rattle.std.proofs.lemmas.List.{get_or_append_left}
+use Rattle.std.proofs.Math.Seq.{get_or-append_seam}
+use Rattle.slice_base.specs.declared.points.Pt.{Pt}
+use Rattle.slice_base.specs.Plane.{same_point}
+use Rattle.slice_base.proofs.SamePoint.{same_point-is}
+use Rattle.clip_core.specs.declared.bundles.Bundle.{Bundle}
+use Rattle.clip_core.specs.declared.windings.Windings.{Windings}
+use Rattle.clip_core.specs.declared.rays.Ray.{Ray}
+use Rattle.clip_core.specs.declared.hulls.Hull.{Hull}
+use Rattle.clip_core.specs.Bundles.{same_bundle}
+use Rattle.clip_core.specs.Windings.{none, plus, reaches, stands_right}
+use Rattle.clip_core.specs.Inner.Rays.{no_ray, twice_middle, ray_with}
+use Rattle.clip_core.specs.Inner.Hulls.{twice_across, misses, takes, IsIn, IsMore, IsHull, AreHulls}
+use Rattle.clip_core.specs.Inner.Raises.{lifted}
+use Rattle.clip_core.proofs.Rings.{diff_of, diff-eq, diff-add, diff-sub, diff-mul}
+use Rattle.clip_core.proofs.Signs.{Sign, sign, pp, pn, nn, np, z*, *z}
+use Rattle.clip_core.proofs.Tallies.{plus_assoc}
+use Rattle.clip_core.proofs.Shares.{missed, ray-same, any-default, below-or-not}
+
+-- the two cross products as one
+turn-sum : (dx dy a c x z : ℤ) → ((dx *ℤ a) -ℤ (dy *ℤ x)) +ℤ ((dx *ℤ c) -ℤ (dy *ℤ z)) ≡ (dx *ℤ (a +ℤ c)) -ℤ (dy *ℤ (x +ℤ z))
+turn-sum dx dy a c x z =
+    let p = diff_of dx in
+    let q = diff_of dy in
+    let r = diff_of a in
+    let s = diff_of c in
+    let t = diff_of x in
+    let u = diff_of z in
+    rw (p.is, q.is, r.is, s.is, t.is, u.is) (simp (diff-add, diff-mul, diff-sub) (diff-eq _ _ _ _ (omega arith)))
+
+-- the same, from the other end
+turn-split : (dx dy a x : ℤ) → (dx *ℤ a) -ℤ (dy *ℤ x) ≡ (dx *ℤ (a -ℤ (dy +ℤ dy))) +ℤ (dy *ℤ ((dx +ℤ dx) -ℤ x))
+turn-split dx dy a x =
+    let p = diff_of dx in
+    let q = diff_of dy in
+    let r = diff_of a in
+    let t = diff_of x in
+    rw (p.is, q.is, r.is, t.is) (simp (diff-add, diff-mul, diff-sub) (diff-eq _ _ _ _ (omega arith)))
+
+both-up : (p q : ℤ) → pos 0 <ℤ p → pos 0 <ℤ q → pos 0 <ℤ (p +ℤ q)
+both-up p q f g = omega (arith, ints)
+
+both-down : (p q : ℤ) → p <ℤ pos 0 → q <ℤ pos 0 → (p +ℤ q) <ℤ pos 0
+both-down p q f g = omega (arith, ints)
+
+more-up : (p q : ℤ) → pos 0 ≤ℤ p → q <ℤ pos 0 → pos 0 <ℤ (p -ℤ q)
+more-up p q f g = omega (arith, ints)
+
+more-down : (p q : ℤ) → p ≤ℤ pos 0 → pos 0 <ℤ q → (p -ℤ q) <ℤ pos 0
+more-down p q f g = omega (arith, ints)
+
+is-up : (p : ℤ) → pos 0 <ℤ p → pos 0 ≤ℤ p
+is-up p h = omega (arith, ints)
+
+is-down : (p : ℤ) → p <ℤ pos 0 → p ≤ℤ pos 0
+is-down p h = omega (arith, ints)
+
+none-up : (p : ℤ) → p ≡ pos 0 → pos 0 ≤ℤ p
+none-up p h = omega (arith, ints)
+
+none-down : (p : ℤ) → p ≡ pos 0 → p ≤ℤ pos 0
+none-down p h = omega (arith, ints)
+
+never-under : (a : ℤ) → pos 0 ≤ℤ a → a <ℤ pos 0 → ⊥
+never-under a h g = omega (arith, ints)
+
+times-up : (d a : ℤ) → pos 0 <ℤ d → pos 0 ≤ℤ a → Sign a → pos 0 ≤ℤ (d *ℤ a)
+times-up d a h up (inl g) = absurd (never-under a up g)
+times-up d a h up (inr (inl g)) = none-up (d *ℤ a) (*z d a g)
+times-up d a h up (inr (inr g)) = is-up (d *ℤ a) (pp d a h g)
+
+times-down : (d a : ℤ) → d <ℤ pos 0 → pos 0 ≤ℤ a → Sign a → (d *ℤ a) ≤ℤ pos 0
+times-down d a h up (inl g) = absurd (never-under a up g)
+times-down d a h up (inr (inl g)) = none-down (d *ℤ a) (*z d a g)
+times-down d a h up (inr (inr g)) = is-down (d *ℤ a) (np d a h g)
+
+tall : (dy a : ℤ) → pos 0 ≤ℤ a → a <ℤ (dy +ℤ dy) → pos 0 <ℤ dy
+tall dy a up lt = omega (arith, ints)
+
+less-down : (a b : ℤ) → a <ℤ b → (a -ℤ b) <ℤ pos 0
+less-down a b h = omega (arith, ints)
+
+less-up : (a b : ℤ) → b <ℤ a → pos 0 <ℤ (a -ℤ b)
+less-up a b h = omega (arith, ints)
+
+left-by : (dx dy a x : ℤ) → pos 0 ≤ℤ a → a <ℤ (dy +ℤ dy) → x <ℤ pos 0 → x <ℤ (dx +ℤ dx) → Sign dx → pos 0 <ℤ ((dx *ℤ a) -ℤ (dy *ℤ x))
+left-by dx dy a x up lt left far (inl h) =
+    subst (λ (t : ℤ). pos 0 <ℤ t) (sym (turn-split dx dy a x))
+    (both-up (dx *ℤ (a -ℤ (dy +ℤ dy))) (dy *ℤ ((dx +ℤ dx) -ℤ x)) (nn dx (a -ℤ (dy +ℤ dy)) h (less-down a (dy +ℤ dy) lt)) (pp dy ((dx +ℤ dx) -ℤ x) (tall dy a up lt) (less-up (dx +ℤ dx) x far)))
+left-by dx dy a x up lt left far (inr (inl h)) = more-up (dx *ℤ a) (dy *ℤ x) (none-up (dx *ℤ a) (z* dx a h)) (pn dy x (tall dy a up lt) left)
+left-by dx dy a x up lt left far (inr (inr h)) = more-up (dx *ℤ a) (dy *ℤ x) (times-up dx a h up (sign a)) (pn dy x (tall dy a up lt) left)
+
+right-by : (dx dy a x : ℤ) → pos 0 ≤ℤ a → a <ℤ (dy +ℤ dy) → pos 0 <ℤ x → (dx +ℤ dx) <ℤ x → Sign dx → ((dx *ℤ a) -ℤ (dy *ℤ x)) <ℤ pos 0
+right-by dx dy a x up lt right far (inr (inr h)) =
+    subst (λ (t : ℤ). t <ℤ pos 0) (sym (turn-split dx dy a x))
+    (both-down (dx *ℤ (a -ℤ (dy +ℤ dy))) (dy *ℤ ((dx +ℤ dx) -ℤ x)) (pn dx (a -ℤ (dy +ℤ dy)) h (less-down a (dy +ℤ dy) lt)) (pn dy ((dx +ℤ dx) -ℤ x) (tall dy a up lt) (less-down (dx +ℤ dx) x far)))
+right-by dx dy a x up lt right far (inr (inl h)) = more-down (dx *ℤ a) (dy *ℤ x) (none-down (dx *ℤ a) (z* dx a h)) (pp dy x (tall dy a up lt) right)
+right-by dx dy a x up lt right far (inl h) = more-down (dx *ℤ a) (dy *ℤ x) (times-down dx a h up (sign a)) (pp dy x (tall dy a up lt) right)
+
+-- from the low end at l: p and q are the ends of the bundle
+
+from-low : (l p q : ℤ) → (l +ℤ l) ≤ℤ (p +ℤ q) → pos 0 ≤ℤ ((p -ℤ l) +ℤ (q -ℤ l))
+from-low l p q h = omega (arith, ints)
+
+to-high : (l h p q : ℤ) → (p +ℤ q) <ℤ (h +ℤ h) → ((p -ℤ l) +ℤ (q -ℤ l)) <ℤ ((h -ℤ l) +ℤ (h -ℤ l))
+to-high l h p q g = omega (arith, ints)
+
+left-of : (l p q : ℤ) → (p +ℤ q) <ℤ (l +ℤ l) → ((p -ℤ l) +ℤ (q -ℤ l)) <ℤ pos 0
+left-of l p q h = omega (arith, ints)
+
+right-of : (l p q : ℤ) → (l +ℤ l) <ℤ (p +ℤ q) → pos 0 <ℤ ((p -ℤ l) +ℤ (q -ℤ l))
+right-of l p q h = omega (arith, ints)
+
+past-high : (l h p q : ℤ) → (h +ℤ h) <ℤ (p +ℤ q) → ((h -ℤ l) +ℤ (h -ℤ l)) <ℤ ((p -ℤ l) +ℤ (q -ℤ l))
+past-high l h p q g = omega (arith, ints)
+
+-- twice the cross product of the edge and the way from its low end to the midpoint
+abbrev Turn : (lx ly hx hy px py qx qy : ℤ) → ℤ
+Turn lx ly hx hy px py qx qy = ((hx -ℤ lx) *ℤ (py -ℤ ly) -ℤ (hy -ℤ ly) *ℤ (px -ℤ lx)) +ℤ ((hx -ℤ lx) *ℤ (qy -ℤ ly) -ℤ (hy -ℤ ly) *ℤ (qx -ℤ lx))
+
+turns-left : (lx ly hx hy px py qx qy : ℤ) → (ly +ℤ ly) ≤ℤ (py +ℤ qy) → (py +ℤ qy) <ℤ (hy +ℤ hy) → (px +ℤ qx) <ℤ (lx +ℤ lx) → (px +ℤ qx) <ℤ (hx +ℤ hx) → pos 0 <ℤ Turn lx ly hx hy px py qx qy
+turns-left lx ly hx hy px py qx qy up lt left far =
+    let dx = hx -ℤ lx in
+    let dy = hy -ℤ ly in
+    subst (λ (t : ℤ). pos 0 <ℤ t) (sym (turn-sum dx dy (py -ℤ ly) (qy -ℤ ly) (px -ℤ lx) (qx -ℤ lx)))
+    (left-by dx dy ((py -ℤ ly) +ℤ (qy -ℤ ly)) ((px -ℤ lx) +ℤ (qx -ℤ lx)) (from-low ly py qy up) (to-high ly hy py qy lt) (left-of lx px qx left) (to-high lx hx px qx far) (sign dx))
+
+turns-right : (lx ly hx hy px py qx qy : ℤ) → (ly +ℤ ly) ≤ℤ (py +ℤ qy) → (py +ℤ qy) <ℤ (hy +ℤ hy) → (lx +ℤ lx) <ℤ (px +ℤ qx) → (hx +ℤ hx) <ℤ (px +ℤ qx) → Turn lx ly hx hy px py qx qy <ℤ pos 0
+turns-right lx ly hx hy px py qx qy up lt right far =
+    let dx = hx -ℤ lx in
+    let dy = hy -ℤ ly in
+    subst (λ (t : ℤ). t <ℤ pos 0) (sym (turn-sum dx dy (py -ℤ ly) (qy -ℤ ly) (px -ℤ lx) (qx -ℤ lx)))
+    (right-by dx dy ((py -ℤ ly) +ℤ (qy -ℤ ly)) ((px -ℤ lx) +ℤ (qx -ℤ lx)) (from-low ly py qy up) (to-high ly hy py qy lt) (right-of lx px qx right) (past-high lx hx px qx far) (sign dx))
+
+-- tests and what they say
+
+lt-is : (a b : ℤ) → int_lt a b ≡ true → a <ℤ b
+lt-is a b h = grind (arith, ints)
+
+le-is : (a b : ℤ) → int_le a b ≡ true → a ≤ℤ b
+le-is a b h = grind (arith, ints)
+
+is-lt : (a b : ℤ) → a <ℤ b → int_lt a b ≡ true
+is-lt a b h = grind (arith, ints)
+
+is-le : (a b : ℤ) → a ≤ℤ b → int_le a b ≡ true
+is-le a b h = grind (arith, ints)
+
+not-up : (t : ℤ) → t <ℤ pos 0 → int_lt (pos 0) t ≡ false
+not-up t h = grind (arith, ints)
+
+le-lt : (a b c : ℤ) → a ≤ℤ b → b <ℤ c → a <ℤ c
+le-lt a b c f g = omega (arith, ints)
+
+lt-le : (a b c : ℤ) → a <ℤ b → b ≤ℤ c → a <ℤ c
+lt-le a b c f g = omega (arith, ints)
+
+le-le : (a b c : ℤ) → a ≤ℤ b → b ≤ℤ c → a ≤ℤ c
+le-le a b c f g = omega (arith, ints)
+
+both-true : (a b : Bool) → a ≡ true → b ≡ true → (a && b) ≡ true
+both-true a b e f = ap (λ t. t && b) e ∙ f
+
+not-both : (a b : Bool) → (a ≡ true → b ≡ false) → (a && b) ≡ false
+not-both true b h = h refl
+not-both false b h = refl
+
+-- the edge is wholly to the left
+
+misses-parts : (f : Bundle) (h : Hull) → misses f h ≡ true → ((f.low.x +ℤ f.low.x) <ℤ h.left) × ((f.high.x +ℤ f.high.x) <ℤ h.left)
+misses-parts f h is =
+    let p = and_parts (int_lt (f.low.x +ℤ f.low.x) h.left) (int_lt (f.high.x +ℤ f.high.x) h.left) is in
+    (lt-is (f.low.x +ℤ f.low.x) h.left p.0, lt-is (f.high.x +ℤ f.high.x) h.left p.1)
+
+same-across : (f b : Bundle) → same_bundle f b ≡ true → (f.low.x ≡ b.low.x) × (f.high.x ≡ b.high.x)
+same-across f b h =
+    let parts = and_parts (same_point f.low b.low) (same_point f.high b.high) h in
+    (ap (λ (p : Pt). p.x) (same_point-is f.low b.low parts.0), ap (λ (p : Pt). p.x) (same_point-is f.high b.high parts.1))
+
+left-apart : (fl fh bl bh l : ℤ) → (fl +ℤ fl) <ℤ l → (fh +ℤ fh) <ℤ l → l ≤ℤ (bl +ℤ bh) → fl ≡ bl → fh ≡ bh → ⊥
+left-apart fl fh bl bh l f g h el eh = omega (arith, ints)
+
+right-apart : (fl fh bl bh r : ℤ) → r <ℤ (fl +ℤ fl) → r <ℤ (fh +ℤ fh) → (bl +ℤ bh) ≤ℤ r → fl ≡ bl → fh ≡ bh → ⊥
+right-apart fl fh bl bh r f g h el eh = omega (arith, ints)
+
+misses-same : (f : Bundle) (h : Hull) (b : Bundle) → IsIn h b → misses f h ≡ true → same_bundle f b ≡ false
+misses-same f h b at is =
+    let p = misses-parts f h is in
+    false_from_ne_true (same_bundle f b) (λ same. let e = same-across f b same in left-apart f.low.x f.high.x b.low.x b.high.x h.left p.0 p.1 at.left e.0 e.1)
+
+reaches-parts : (f b : Bundle) → reaches f b ≡ true → ((f.low.y +ℤ f.low.y) ≤ℤ (b.low.y +ℤ b.high.y)) × ((b.low.y +ℤ b.high.y) <ℤ (f.high.y +ℤ f.high.y))
+reaches-parts f b is =
+    let p = and_parts (int_le (f.low.y +ℤ f.low.y) (b.low.y +ℤ b.high.y)) (int_lt (b.low.y +ℤ b.high.y) (f.high.y +ℤ f.high.y)) is in
+    (le-is (f.low.y +ℤ f.low.y) (b.low.y +ℤ b.high.y) p.0, lt-is (b.low.y +ℤ b.high.y) (f.high.y +ℤ f.high.y) p.1)
+
+pub misses-meets : (f : Bundle) (h : Hull) (b : Bundle) → IsIn h b → misses f h ≡ true → (reaches f b && stands_right f b) ≡ false
+misses-meets f h b at is =
+    let p = misses-parts f h is in
+    let right = lt-le (f.low.x +ℤ f.low.x) h.left (twice_across b) p.0 at.left in
+    let far = lt-le (f.high.x +ℤ f.high.x) h.left (twice_across b) p.1 at.left in
+    not-both (reaches f b) (stands_right f b) (λ up.
+    let q = reaches-parts f b up in
+    not-up (Turn f.low.x f.low.y f.high.x f.high.y b.low.x b.low.y b.high.x b.high.y)
+    (turns-right f.low.x f.low.y f.high.x f.high.y b.low.x b.low.y b.high.x b.high.y q.0 q.1 right far))
+
+pub missed-ray : (f : Bundle) (s : Windings) (h : Hull) (r : Ray) → IsIn h r.bundle → misses f h ≡ true → r ≡ ray_with f s r
+missed-ray f s h r at is = ray-same f s r (misses-same f h r.bundle at is) (misses-meets f h r.bundle at is)
+
+-- the edge is wholly to the right
+
+pub record IsTaken (f : Bundle) (h : Hull) : Type 0 where
+  pub low : (f.low.y +ℤ f.low.y) ≤ℤ h.low
+  pub high : h.high <ℤ (f.high.y +ℤ f.high.y)
+  pub near : h.right <ℤ (f.low.x +ℤ f.low.x)
+  pub far : h.right <ℤ (f.high.x +ℤ f.high.x)
+
+takes-parts : (f : Bundle) (h : Hull) → takes f h ≡ true → IsTaken f h
+takes-parts f h is =
+    let p = and_parts (int_le (f.low.y +ℤ f.low.y) h.low && int_lt h.high (f.high.y +ℤ f.high.y)) (int_lt h.right (f.low.x +ℤ f.low.x) && int_lt h.right (f.high.x +ℤ f.high.x)) is in
+    let q = and_parts (int_le (f.low.y +ℤ f.low.y) h.low) (int_lt h.high (f.high.y +ℤ f.high.y)) p.0 in
+    let r = and_parts (int_lt h.right (f.low.x +ℤ f.low.x)) (int_lt h.right (f.high.x +ℤ f.high.x)) p.1 in
+    record {
+      low = le-is (f.low.y +ℤ f.low.y) h.low q.0;
+      high = lt-is h.high (f.high.y +ℤ f.high.y) q.1;
+      near = lt-is h.right (f.low.x +ℤ f.low.x) r.0;
+      far = lt-is h.right (f.high.x +ℤ f.high.x) r.1;
+    }
+
+takes-same : (f : Bundle) (h : Hull) (b : Bundle) → IsIn h b → takes f h ≡ true → same_bundle f b ≡ false
+takes-same f h b at is =
+    let p = takes-parts f h is in
+    false_from_ne_true (same_bundle f b) (λ same. let e = same-across f b same in right-apart f.low.x f.high.x b.low.x b.high.x h.right p.near p.far at.right e.0 e.1)
+
+pub takes-meets : (f : Bundle) (h : Hull) (b : Bundle) → IsIn h b → takes f h ≡ true → (reaches f b && stands_right f b) ≡ true
+takes-meets f h b at is =
+    let p = takes-parts f h is in
+    let low = le-le (f.low.y +ℤ f.low.y) h.low (twice_middle b) p.low at.low in
+    let high = le-lt (twice_middle b) h.high (f.high.y +ℤ f.high.y) at.high p.high in
+    let near = le-lt (twice_across b) h.right (f.low.x +ℤ f.low.x) at.right p.near in
+    let far = le-lt (twice_across b) h.right (f.high.x +ℤ f.high.x) at.right p.far in
+    both-true (reaches f b) (stands_right f b)
+    (both-true (int_le (f.low.y +ℤ f.low.y) (twice_middle b)) (int_lt (twice_middle b) (f.high.y +ℤ f.high.y)) (is-le (f.low.y +ℤ f.low.y) (twice_middle b) low) (is-lt (twice_middle b) (f.high.y +ℤ f.high.y) high))
+    (is-lt (pos 0) (Turn f.low.x f.low.y f.high.x f.high.y b.low.x b.low.y b.high.x b.high.y)
+    (turns-left f.low.x f.low.y f.high.x f.high.y b.low.x b.low.y b.high.x b.high.y low high near far))
+
+met : (w s : Windings) (t : Bool) → t ≡ true → plus w s ≡ plus w (cond t s none)
+met w s true h = refl
+met w s false h = absurd (cc)
+
+pub taken-ray : (f : Bundle) (s : Windings) (h : Hull) (by : Windings) (r : Ray) → IsIn h r.bundle → takes f h ≡ true → lifted (plus by s) r ≡ ray_with f s (lifted by r)
+taken-ray f s h by r at is =
+    let p = sym (missed r.net s (same_bundle f r.bundle) (takes-same f h r.bundle at is)) in
+    let q = sym (plus_assoc r.sum by s) ∙ met (plus r.sum by) s (reaches f r.bundle && stands_right f r.bundle) (takes-meets f h r.bundle at is) in
+    λ i. record { bundle = r.bundle; place = r.place; net = p i; sum = q i }
+
+-- a box that has more has what the other has
+pub more-in : (g h : Hull) (b : Bundle) → IsMore g h → IsIn h b → IsIn g b
+more-in g h b more at = record {
+  low = le-le g.low h.low (twice_middle b) more.low at.low;
+  high = le-le (twice_middle b) h.high g.high at.high more.high;
+  left = le-le g.left h.left (twice_across b) more.left at.left;
+  right = le-le (twice_across b) h.right g.right at.right more.right;
+}
+
+-- boxes round stretches of rays
+
+-- what a place past the end would read
+abbrev pub no_hull : Hull
+no_hull = record { low = pos 0; high = pos 0; left = pos 0; right = pos 0 }
+
+at-place : (h : Hull) (rays : List Ray) (i k : ℕ) (d : Ray) → i < length rays → k ≡ i → IsIn h (get_or rays i no_ray).bundle → IsIn h (get_or rays k d).bundle
+at-place h rays i k d inside same at =
+    subst (λ (j : ℕ). IsIn h (get_or rays j d).bundle) (sym same) (subst (λ (r : Ray). IsIn h r.bundle) (any-default rays i no_ray d inside) at)
+
+pub hull-first : (h : Hull) (rays : List Ray) (from : ℕ) → from < length rays → IsIn h (get_or rays from no_ray).bundle → (k : ℕ) (d : Ray) → from ≤ k → k < from + 1 → IsIn h (get_or rays k d).bundle
+hull-first h rays from inside at k d le lt = at-place h rays from k d inside (omega arith) at
+
+-- one ray more
+pub hull-more : (hull new h : Hull) (rays : List Ray) (from i : ℕ) → i < length rays → IsMore new hull → IsMore new h → IsIn h (get_or rays i no_ray).bundle → ((k : ℕ) (d : Ray) → from ≤ k → k < i → IsIn hull (get_or rays k d).bundle) → (k : ℕ) (d : Ray) → from ≤ k → k < i + 1 → IsIn new (get_or rays k d).bundle
+hull-more hull new h rays from i inside first second at before k d le lt = pick (below-or-not k i)
+  where
+    pick : (k < i) ⊎ (i ≤ k) → IsIn new (get_or rays k d).bundle
+    pick (inl g) = more-in new hull (get_or rays k d).bundle first (before k d le g)
+    pick (inr g) = at-place new rays i k d inside (omega arith) (more-in new h (get_or rays i no_ray).bundle second at)
+
+-- the box that is found for a stretch
+pub hull-at : (width : ℕ) (hulls : List Hull) (rays : List Ray) (i q end : ℕ) → AreHulls width hulls rays → width * q ≡ i → q < length hulls → i ≤ end → end ≤ i + width → IsHull (get_or hulls q no_hull) rays i (end - i)
+hull-at width hulls rays i q end h same inside le fits k d low high below =
+    h.covers q no_hull inside k d (omega arith) (omega arith) below
+
+-- one box more
+pub hulls-more : (width from : ℕ) (hulls : List Hull) (h : Hull) (rays : List Ray) → from ≡ width * length hulls → IsHull h rays from width → ((j : ℕ) (d : Hull) → j < length hulls → IsHull (get_or hulls j d) rays (width * j) width) → (j : ℕ) (d : Hull) → j < length (hulls ++ h ∷ []) → IsHull (get_or (hulls ++ h ∷ []) j d) rays (width * j) width
+hulls-more width from hulls h rays at is before j d lt = pick (below-or-not j (length hulls))
+  where
+    pick : (j < length hulls) ⊎ (length hulls ≤ j) → IsHull (get_or (hulls ++ h ∷ []) j d) rays (width * j) width
+    pick (inl g) = subst (λ (x : Hull). IsHull x rays (width * j) width) (sym (get_or_append_left hulls (h ∷ []) d j g)) (before j d g)
+    pick (inr g) =
+        let same : j ≡ length hulls = omega (arith, length-append hulls (h ∷ [])) in
+        subst (λ (n : ℕ). IsHull (get_or (hulls ++ h ∷ []) n d) rays (width * n) width) (sym same)
+        (subst (λ (x : Hull). IsHull x rays (width * length hulls) width) (sym (get_or-append_seam hulls h [] d)) (subst (λ (n : ℕ). IsHull h rays n width) at is))
+
+pub boxes-step : (from width l n : ℕ) → from ≡ width * l → n ≡ l + 1 → from + width ≡ width * n
+boxes-step from width l n at len =
+    let e : width * l + width ≡ width * (l + 1) = omega arith in
+    ap (λ (q : ℕ). q + width) at ∙ (e ∙ ap (λ (q : ℕ). width * q) (sym len))

@@ -1,0 +1,44 @@
+-- Boxes round midpoints, all numbers doubled.
+use Rattle.std.specs.Prelude.{ℕ, ℤ, ◌+◌, ◌*◌, ◌+ℤ◌, ◌≤◌, ◌<◌, ◌≤ℤ◌, Bool, ◌&&◌, int_lt, int_le, List, length, slice_index_or}
+use Rattle.clip_core.specs.declared.bundles.Bundle.{Bundle}
+use Rattle.clip_core.specs.declared.hulls.Hull.{Hull}
+use Rattle.clip_core.specs.declared.rays.Ray.{Ray}
+use Rattle.clip_core.specs.Inner.Rays.{twice_middle}
+
+-- twice the place across of the bundle's midpoint
+abbrev pub twice_across : Bundle → ℤ
+twice_across b = b.low.x +ℤ b.high.x
+
+-- the edge with these ends stands wholly to the left of the box
+abbrev pub misses : Bundle → Hull → Bool
+misses f h = int_lt (f.low.x +ℤ f.low.x) h.left && int_lt (f.high.x +ℤ f.high.x) h.left
+
+-- the edge with these ends reaches each height of the box, and stands wholly to its right
+abbrev pub takes : Bundle → Hull → Bool
+takes f h =
+    (int_le (f.low.y +ℤ f.low.y) h.low && int_lt h.high (f.high.y +ℤ f.high.y))
+    && (int_lt h.right (f.low.x +ℤ f.low.x) && int_lt h.right (f.high.x +ℤ f.high.x))
+
+-- the bundle's midpoint lies in the box
+pub record IsIn (h : Hull) (b : Bundle) : Type 0 where
+  pub low : h.low ≤ℤ twice_middle b
+  pub high : twice_middle b ≤ℤ h.high
+  pub left : h.left ≤ℤ twice_across b
+  pub right : twice_across b ≤ℤ h.right
+
+-- the box has all of another one
+pub record IsMore (g h : Hull) : Type 0 where
+  pub low : g.low ≤ℤ h.low
+  pub high : h.high ≤ℤ g.high
+  pub left : g.left ≤ℤ h.left
+  pub right : h.right ≤ℤ g.right
+
+-- the midpoints from `from` on lie in the box, up to `width` of them
+abbrev pub IsHull : Hull → List Ray → ℕ → ℕ → Type 0
+IsHull hull rays from width =
+    (k : ℕ) (d : Ray) → from ≤ k → k < from + width → k < length rays → IsIn hull (slice_index_or rays k d).bundle
+
+-- the box at j is round the midpoints from width times j on, up to `width` of them
+pub record AreHulls (width : ℕ) (hulls : List Hull) (rays : List Ray) : Type 0 where
+  pub enough : length rays ≤ width * length hulls
+  pub covers : (j : ℕ) (d : Hull) → j < length hulls → IsHull (slice_index_or hulls j d) rays (width * j) width

@@ -1,0 +1,96 @@
+// Sums that are raised for a whole stretch of rays at once: a list says at each place by how much the sums
+// from there on are greater.
+
+ghost use Rattle.std.specs.Prelude.{◌≡◌, ◌+◌, ◌-◌, ◌*◌, ◌<◌, ◌≤◌, ◌^◌, ℕ, suc, true, length, set, slice_index_or, IfOk};
+ghost use Rattle.std.specs.List.{All};
+ghost use Rattle.clip_core.specs.Windings.{none, plus, less};
+ghost use Rattle.clip_core.specs.Inner.Small.{AreSmall};
+ghost use Rattle.clip_core.specs.Inner.Rays.{IsSmallRay};
+ghost use Rattle.clip_core.specs.Inner.Raises.{raised, lifted, AllSmall, AreLifted};
+
+use crate::rays::Ray;
+use crate::windings::Windings;
+use slice_base::NoMemory;
+use std::alloc::Global;
+
+fn plus(m: Windings, n: Windings) -> Windings
+    requires m_small { AreSmall (2 ^ 62) m }
+    requires n_small { AreSmall (2 ^ 61) n }
+    ensures { result ≡ plus m n }
+{
+    Windings {
+        first: m.first + n.first,
+        second: m.second + n.second,
+    }
+}
+
+fn less(m: Windings, n: Windings) -> Windings
+    requires m_small { AreSmall (2 ^ 62) m }
+    requires n_small { AreSmall (2 ^ 61) n }
+    ensures { result ≡ less m n }
+{
+    Windings {
+        first: m.first - n.first,
+        second: m.second - n.second,
+    }
+}
+
+/// A list of this many places that raises nothing.
+pub(crate) fn no_raises(alloc: Global, count: usize) -> Result<Vec<Windings>, NoMemory>
+    ensures count { IfOk result (λ raises. length raises.items ≡ count) }
+    ensures flat { IfOk result (λ raises. All (λ w. w ≡ none) raises.items) }
+{
+    let mut raises = Vec::new(alloc);
+    for place in 0..count {
+        raises.push(Windings {
+            first: 0,
+            second: 0,
+        })?;
+    }
+    Ok(raises)
+}
+
+/// Raises the sums from `i` up to `end`, which is left out.
+pub(crate) fn raise(raises: &mut Vec<Windings>, i: usize, end: usize, share: Windings)
+    requires within { end < length raises.old.items }
+    requires some { i < end }
+    requires share_small { AreSmall 1 share }
+    requires small { All (AreSmall (2 ^ 61)) raises.old.items }
+    ensures { raises.new.items ≡ set (set raises.old.items i (plus (slice_index_or raises.old.items i none) share))
+        end (less (slice_index_or raises.old.items end none) share) }
+{
+    let before = less(raises[end], share);
+    raises[i] = plus(raises[i], share);
+    raises[end] = before;
+}
+
+fn lifted(by: Windings, r: Ray) -> Ray
+    requires by_small { AreSmall (2 ^ 61) by }
+    requires ray_small { IsSmallRay (2 ^ 61) r }
+    ensures { result ≡ lifted by r }
+{
+    Ray {
+        bundle: r.bundle,
+        place: r.place,
+        net: r.net,
+        sum: plus(r.sum, by),
+    }
+}
+
+/// Adds what was raised to each ray.
+pub(crate) fn lift(rays: &mut Vec<Ray>, raises: &[Windings])
+    requires few { length rays.old.items ≤ 100000 }
+    requires enough { length rays.old.items < length raises.now }
+    requires small { AllSmall (2 ^ 40) rays.old.items raises.now }
+    ensures count { length rays.new.items ≡ length rays.old.items }
+    ensures exact { AreLifted rays.old.items raises.now rays.new.items }
+{
+    let mut by = Windings {
+        first: 0,
+        second: 0,
+    };
+    for k in 0..rays.len() {
+        by = plus(by, raises[k]);
+        rays[k] = lifted(by, rays[k]);
+    }
+}
