@@ -1,12 +1,10 @@
 -- Boxes compared pair by pair.
-use Rattle.std.proofs.Common.{◌≡◌, ◌≢◌, ◌<◌, ◌≤◌, ◌+◌, ℕ, zero, suc, ℤ, ◌≤ℤ◌, ◌&&◌, Bool, true, false, cond, not, int_lt, List, [], ◌∷◌, length, get_or, drop, inl, inr, ◌⊎◌, arith, refl, sym, ap, ◌∙◌, subst}
-use Rattle.std.specs.Prelude.{int_le}
-use Rattle.std.specs.declared.cmp.Ordering.TheVariants.{Less, Equal, Greater}
-use Rattle.std.specs.Ordering.{int_cmp, is_lt}
-use Rattle.std.specs.List.{All}
+use Rattle.std.proofs.Common.{◌≡◌, ◌≢◌, ◌<◌, ◌≤◌, ◌+◌, ◌*◌, ℕ, zero, suc, ℤ, ◌≤ℤ◌, ◌&&◌, Bool, true, false, cond, not, int_lt, List, [], ◌∷◌, ◌++◌, length, get_or, inl, inr, ◌⊎◌, arith, refl, sym, ap, ◌∙◌, subst}
+use Rattle.std.specs.Prelude.{int_le, nat_le}
+use Rattle.std.specs.List.{All, Contains}
 use Rattle.std.specs.List.Sorted.{IsPermutation}
-use Rattle.std.proofs.lemmas.Int.{ints}
-use Rattle.std.proofs.lemmas.List.Elements.{All-nil, All-cons}
+use Rattle.std.proofs.lemmas.Bool.Decides.{nat_tests}
+use Rattle.std.proofs.lemmas.List.Elements.{All-append, All-nil, All-cons}
 use Rattle.std.proofs.lemmas.List.Sorted.{All-permutation, Contains-permutation}
 use Rattle.slice_base.specs.declared.points.Pt.{Pt}
 use Rattle.slice_base.specs.declared.points.Edge.{Edge}
@@ -14,13 +12,15 @@ use Rattle.clip_bands.specs.declared.bands.Span.{Span}
 use Rattle.clip_bands.specs.Places.{touches}
 use Rattle.edge_cut.specs.declared.passes.Marked.{Marked}
 use Rattle.edge_cut.specs.declared.pairs.Extent.{Extent}
+use Rattle.edge_cut.specs.declared.pairs.Filed.{Filed}
 use Rattle.edge_cut.specs.declared.pairs.Pair.{Pair}
 use Rattle.edge_cut.specs.Meeting.{meeting_of}
 use Rattle.edge_cut.specs.Ordered.{MeetsAtEnds}
 use Rattle.edge_cut.specs.Inner.Places.{nothing}
-use Rattle.edge_cut.specs.Inner.Pairs.{no_extent, extent_of, extents_from, AreRising, IsExtentOf, IsPaired, AreCompared, Keeps, ComparedUpTo, ArePaired}
-use Rattle.edge_cut.proofs.Ordered.{In, in-contained}
+use Rattle.edge_cut.specs.Inner.Pairs.{extent_of, above_least, key_of, filed_at, limit_of, AreRising, IsExtentOf, IsFileOf, KeepsFiles, IsFiled, AreFiled, IsPaired, AreCompared, Keeps, ComparedUpTo, ComparedBelow, ArePaired}
+use Rattle.edge_cut.proofs.Ordered.{In, in-contained, contains-in}
 use Rattle.edge_cut.proofs.Beside.{meetings-apart, meetings-beside}
+use Rattle.edge_cut.proofs.Columns.{higher, common}
 
 -- edges whose boxes are apart don't meet
 
@@ -103,20 +103,17 @@ any-default [] i d e below = absurd (omega arith)
 any-default (x ∷ xs) zero d e below = refl
 any-default (x ∷ xs) (suc i) d e below = any-default xs i d e (omega arith)
 
-pub none-yet : (all : List Marked) (pairs : List Pair) (xs : List Extent) (r : ℕ) → ComparedUpTo all pairs xs r (r + 1)
-none-yet all pairs xs r s d later below = absurd (omega arith)
+pub none-yet : (all : List Marked) (pairs : List Pair) (fs : List Filed) (r : ℕ) → ComparedUpTo all pairs fs r (r + 1)
+none-yet all pairs fs r s d later below same = absurd (omega arith)
 
-pub one-compared : (all : List Marked) (old new : List Pair) (xs : List Extent) (r s : ℕ) (a b : Extent) → r < s → s < length xs → ((d : Extent) → get_or xs r d ≡ a) → ((d : Extent) → get_or xs s d ≡ b) → Keeps old new → ComparedUpTo all old xs r s → AreCompared all new a.place b.place → ComparedUpTo all new xs r (s + 1)
-one-compared all old new xs r s a b up below ra sb kept so_far here t d later lt = pick (below-or-last t s lt)
+pub one-compared : (all : List Marked) (old new : List Pair) (fs : List Filed) (r s : ℕ) (a b : Filed) → r < s → s < length fs → ((d : Filed) → get_or fs r d ≡ a) → ((d : Filed) → get_or fs s d ≡ b) → Keeps old new → ComparedUpTo all old fs r s → AreCompared all new a.extent.place b.extent.place → ComparedUpTo all new fs r (s + 1)
+one-compared all old new fs r s a b up below ra sb kept so_far here t d later lt same = pick (below-or-last t s lt)
   where
-    pick : (t < s) ⊎ (t ≡ s) → AreCompared all new (get_or xs r d).place (get_or xs t d).place
-    pick (inl h) = still-compared all old new (get_or xs r d).place (get_or xs t d).place kept (so_far t d later h)
-    pick (inr h) = subst (λ (k : ℕ). AreCompared all new (get_or xs r d).place (get_or xs k d).place) (sym h)
-        (subst (λ (x : Extent). AreCompared all new x.place (get_or xs s d).place) (sym (ra d))
-        (subst (λ (x : Extent). AreCompared all new a.place x.place) (sym (sb d)) here))
-
-over-test : (ah bl cl : ℤ) → int_le bl ah ≡ false → bl ≤ℤ cl → int_le cl ah ≡ false
-over-test ah bl cl h le = grind (arith, ints)
+    pick : (t < s) ⊎ (t ≡ s) → AreCompared all new (get_or fs r d).extent.place (get_or fs t d).extent.place
+    pick (inl h) = still-compared all old new (get_or fs r d).extent.place (get_or fs t d).extent.place kept (so_far t d later h same)
+    pick (inr h) = subst (λ (k : ℕ). AreCompared all new (get_or fs r d).extent.place (get_or fs k d).extent.place) (sym h)
+        (subst (λ (x : Filed). AreCompared all new x.extent.place (get_or fs s d).extent.place) (sym (ra d))
+        (subst (λ (x : Filed). AreCompared all new a.extent.place x.extent.place) (sym (sb d)) here))
 
 no-second : (a b : Bool) → b ≡ false → (a && b) ≡ false
 no-second true b h = h
@@ -131,87 +128,97 @@ below-or-not (suc k) (suc i) = one-up (below-or-not k i)
     one-up (inl h) = inl (omega arith)
     one-up (inr h) = inr (omega arith)
 
--- where the walk stops, all boxes behind are apart
-pub rest-compared : (lies : Bool) (all : List Marked) (pairs : List Pair) (xs : List Extent) (r s : ℕ) (e : Extent) → r < length xs → s < length xs → AreRising xs → All (IsExtentOf lies all) xs → int_le (get_or xs s e).along.low (get_or xs r e).along.high ≡ false → ComparedUpTo all pairs xs r s → ComparedUpTo all pairs xs r (length xs)
-rest-compared lies all pairs xs r s e rin sin rising are over so_far t d later below = pick (below-or-not t s)
+not-le : (m n : ℕ) → nat_le m n ≡ false → n < m
+not-le m n h = grind (arith, nat_tests)
+
+-- a box of the same column with a greater key than the limit begins behind the high end
+far-behind : (f g : Filed) → g ≡ filed_at g.column g.extent → f.column ≡ g.column → limit_of f < g.key → int_le g.extent.along.low f.extent.along.high ≡ false
+far-behind f g is same over =
+    let key : g.key ≡ key_of g.column g.extent.along.low = ap (λ (x : Filed). x.key) is in
+    let begins : f.column * 4294967296 ≡ g.column * 4294967296 = ap (λ (n : ℕ). n * 4294967296) same in
+    let lt : above_least f.extent.along.high < above_least g.extent.along.low = behind (f.column * 4294967296) (g.column * 4294967296) (above_least f.extent.along.high) (above_least g.extent.along.low) g.key begins key over in
+    higher f.extent.along.high g.extent.along.low lt
   where
-    pick : (t < s) ⊎ (s ≤ t) → AreCompared all pairs (get_or xs r d).place (get_or xs t d).place
-    pick (inl h) = so_far t d later h
+    behind : (k l a b key : ℕ) → k ≡ l → key ≡ l + b → k + a < key → a < b
+    behind k l a b key e g h = omega arith
+
+less-by : (k l m n : ℕ) → m < k → m ≡ n → k ≡ l → n < l
+less-by k l m n lt low key = omega arith
+
+later-key : (k l m : ℕ) → k < l → l ≤ m → k < m
+later-key k l m lt le = omega arith
+
+-- where the walk stops, all boxes behind in the column are apart
+pub rest-compared : (lies : Bool) (all : List Marked) (pairs : List Pair) (fs : List Filed) (r s : ℕ) (e : Filed) (limit : ℕ) → r < length fs → s < length fs → AreRising fs → All (IsFileOf lies all) fs → limit ≡ limit_of (get_or fs r e) → nat_le (get_or fs s e).key limit ≡ false → ComparedUpTo all pairs fs r s → ComparedUpTo all pairs fs r (length fs)
+rest-compared lies all pairs fs r s e limit rin sin rising are is over so_far t d later below same = pick (below-or-not t s)
+  where
+    pick : (t < s) ⊎ (s ≤ t) → AreCompared all pairs (get_or fs r d).extent.place (get_or fs t d).extent.place
+    pick (inl h) = so_far t d later h same
     pick (inr h) =
-        let here : int_le (get_or xs s d).along.low (get_or xs r d).along.high ≡ false = subst (λ (x : Extent). int_le x.along.low (get_or xs r d).along.high ≡ false) (any-default xs s e d sin) (subst (λ (x : Extent). int_le (get_or xs s e).along.low x.along.high ≡ false) (any-default xs r e d rin) over) in
-        let far = over-test (get_or xs r d).along.high (get_or xs s d).along.low (get_or xs t d).along.low here (rising s t d h below) in
-        along-compared lies all pairs (get_or xs r d) (get_or xs t d) (are r d rin) (are t d below)
-        (no-second (int_le (get_or xs r d).along.low (get_or xs t d).along.high) (int_le (get_or xs t d).along.low (get_or xs r d).along.high) far)
+        let f = get_or fs r d in
+        let g = get_or fs t d in
+        let low : limit ≡ limit_of f = is ∙ ap (λ (x : Filed). limit_of x) (any-default fs r e d rin) in
+        let key : (get_or fs s e).key ≡ (get_or fs s d).key = ap (λ (x : Filed). x.key) (any-default fs s e d sin) in
+        let here : limit_of f < (get_or fs s d).key = less-by (get_or fs s e).key (get_or fs s d).key limit (limit_of f) (not-le (get_or fs s e).key limit over) low key in
+        let behind : limit_of f < g.key = later-key (limit_of f) (get_or fs s d).key g.key here (rising s t d h below) in
+        let far = far-behind f g (are t d below).is same behind in
+        along-compared lies all pairs f.extent g.extent (are r d rin).extent (are t d below).extent
+        (no-second (int_le f.extent.along.low g.extent.along.high) (int_le g.extent.along.low f.extent.along.high) far)
 
-pub all-behind : (all : List Marked) (pairs : List Pair) (xs : List Extent) (r s : ℕ) → length xs ≤ s → ComparedUpTo all pairs xs r s → ComparedUpTo all pairs xs r (length xs)
-all-behind all pairs xs r s over so_far t d later below = so_far t d later (omega arith)
+pub all-behind : (all : List Marked) (pairs : List Pair) (fs : List Filed) (r s : ℕ) → length fs ≤ s → ComparedUpTo all pairs fs r s → ComparedUpTo all pairs fs r (length fs)
+all-behind all pairs fs r s over so_far t d later below same = so_far t d later (omega arith) same
 
--- all boxes up to r compared with all behind them
-abbrev pub ComparedBelow : List Marked → List Pair → List Extent → ℕ → Type 0
-ComparedBelow all pairs xs r = (q : ℕ) → q < r → ComparedUpTo all pairs xs q (length xs)
-
-pub more-below : (all : List Marked) (old new : List Pair) (xs : List Extent) (r : ℕ) → Keeps old new → ComparedBelow all old xs r → ComparedUpTo all new xs r (length xs) → ComparedBelow all new xs (r + 1)
-more-below all old new xs r kept so_far here q lt = pick (below-or-last q r lt)
+pub more-below : (all : List Marked) (old new : List Pair) (fs : List Filed) (r : ℕ) → Keeps old new → ComparedBelow all old fs r → ComparedUpTo all new fs r (length fs) → ComparedBelow all new fs (r + 1)
+more-below all old new fs r kept so_far here q lt = pick (below-or-last q r lt)
   where
-    pick : (q < r) ⊎ (q ≡ r) → ComparedUpTo all new xs q (length xs)
-    pick (inl h) = λ t d later below. still-compared all old new (get_or xs q d).place (get_or xs t d).place kept (so_far q h t d later below)
-    pick (inr h) = subst (λ (k : ℕ). ComparedUpTo all new xs k (length xs)) (sym h) here
+    pick : (q < r) ⊎ (q ≡ r) → ComparedUpTo all new fs q (length fs)
+    pick (inl h) = λ t d later below same. still-compared all old new (get_or fs q d).extent.place (get_or fs t d).extent.place kept (so_far q h t d later below same)
+    pick (inr h) = subst (λ (k : ℕ). ComparedUpTo all new fs k (length fs)) (sym h) here
 
--- the boxes of all edges
+pub all-below : (all : List Marked) (pairs : List Pair) (fs : List Filed) (r : ℕ) → length fs ≤ r → ComparedBelow all pairs fs r → ComparedBelow all pairs fs (length fs)
+all-below all pairs fs r over so_far q lt = so_far q (omega arith)
 
-head-at : (all ms : List Marked) (m : Marked) (i : ℕ) → drop i all ≡ m ∷ ms → (i < length all) × (get_or all i nothing ≡ m)
-head-at [] ms m zero h = absurd (cc)
-head-at [] ms m (suc i) h = absurd (cc)
-head-at (n ∷ ns) ms m zero h = (omega arith, cc)
-head-at (n ∷ ns) ms m (suc i) h = let r = head-at ns ms m i h in (omega (arith, r.0), r.1)
+-- the boxes of all edges, each filed in the columns that it touches
 
-tail-at : (all ms : List Marked) (m : Marked) (i : ℕ) → drop i all ≡ m ∷ ms → drop (suc i) all ≡ ms
-tail-at [] ms m zero h = absurd (cc)
-tail-at [] ms m (suc i) h = absurd (cc)
-tail-at (n ∷ ns) ms m zero h = cc
-tail-at (n ∷ ns) ms m (suc i) h = tail-at ns ms m i h
+pub one-filed : (lies : Bool) (width : ℕ) (all : List Marked) (old new : List Filed) (place : ℕ) → KeepsFiles old new → ((i : ℕ) → i < place → IsFiled width (extent_of lies i (get_or all i nothing).edge) old) → IsFiled width (extent_of lies place (get_or all place nothing).edge) new → (i : ℕ) → i < place + 1 → IsFiled width (extent_of lies i (get_or all i nothing).edge) new
+one-filed lies width all old new place kept so_far here i lt = pick (below-or-last i place lt)
+  where
+    pick : (i < place) ⊎ (i ≡ place) → IsFiled width (extent_of lies i (get_or all i nothing).edge) new
+    pick (inl h) = λ c after before. kept (filed_at c (extent_of lies i (get_or all i nothing).edge)) (so_far i h c after before)
+    pick (inr h) = subst (λ (k : ℕ). IsFiled width (extent_of lies k (get_or all k nothing).edge) new) (sym h) here
 
-extents-are : (lies : Bool) (all ms : List Marked) (i : ℕ) → drop i all ≡ ms → All (IsExtentOf lies all) (extents_from lies i ms)
-extents-are lies all [] i h = All-nil (IsExtentOf lies all)
-extents-are lies all (m ∷ ms) i h =
-    let at = head-at all ms m i h in
-    All-cons (IsExtentOf lies all) (extent_of lies i m.edge) (extents_from lies (suc i) ms)
-    (record { within = at.0; is = ap (λ (n : Marked). extent_of lies i n.edge) (sym at.1) })
-    (extents-are lies all ms (suc i) (tail-at all ms m i h))
+pub one-column : (x : Extent) (old new : List Filed) (first column : ℕ) → KeepsFiles old new → ((c : ℕ) → first ≤ c → c < column → Contains old (filed_at c x)) → Contains new (filed_at column x) → (c : ℕ) → first ≤ c → c < column + 1 → Contains new (filed_at c x)
+one-column x old new first column kept so_far here c after lt = pick (below-or-last c column lt)
+  where
+    pick : (c < column) ⊎ (c ≡ column) → Contains new (filed_at c x)
+    pick (inl h) = kept (filed_at c x) (so_far c after h)
+    pick (inr h) = subst (λ (k : ℕ). Contains new (filed_at k x)) (sym h) here
 
-pub moved-are : (lies : Bool) (all : List Marked) (xs : List Extent) → IsPermutation (extents_from lies 0 all) xs → All (IsExtentOf lies all) xs
-moved-are lies all xs moved = All-permutation (IsExtentOf lies all) (extents_from lies 0 all) xs moved (extents-are lies all all 0 refl)
+in-front : (f : Filed) (xs ys : List Filed) → In f xs → In f (xs ++ ys)
+in-front f [] ys h = elim h [ ]
+in-front f (x ∷ xs) ys (inl is) = inl is
+in-front f (x ∷ xs) ys (inr h) = inr (in-front f xs ys h)
 
-length-extents : (lies : Bool) (i : ℕ) (ms : List Marked) → length (extents_from lies i ms) ≡ length ms
-length-extents lies i [] = refl
-length-extents lies i (m ∷ ms) = ap suc (length-extents lies (suc i) ms)
+in-last : (f : Filed) (xs : List Filed) → In f (xs ++ f ∷ [])
+in-last f [] = inl refl
+in-last f (x ∷ xs) = inr (in-last f xs)
 
-placed-from : (lies : Bool) (i k : ℕ) (ms : List Marked) (d : Extent) → k < length ms → (get_or (extents_from lies i ms) k d).place ≡ i + k
-placed-from lies i k [] d below = absurd (omega arith)
-placed-from lies i zero (m ∷ ms) d below = omega arith
-placed-from lies i (suc k) (m ∷ ms) d below = let e = placed-from lies (suc i) k ms d (omega arith) in omega arith
+pub pushed-kept : (old new : List Filed) (f : Filed) → new ≡ old ++ f ∷ [] → KeepsFiles old new
+pushed-kept old new f is g h = subst (λ (fs : List Filed). Contains fs g) (sym is) (contains-in g (old ++ f ∷ []) (in-front g old (f ∷ []) (in-contained g old h)))
 
--- a box for each edge
-pub record HasExtent (xs : List Extent) (d : Extent) (k : ℕ) : Type 0 where
-  pub at : ℕ
-  pub within : at < length xs
-  pub is : (get_or xs at d).place ≡ k
+pub pushed-last : (old new : List Filed) (f : Filed) → new ≡ old ++ f ∷ [] → Contains new f
+pushed-last old new f is = subst (λ (fs : List Filed). Contains fs f) (sym is) (contains-in f (old ++ f ∷ []) (in-last f old))
 
-zero-plus : (n : ℕ) → 0 + n ≡ n
-zero-plus n = omega arith
+pub pushed-are : (lies : Bool) (all : List Marked) (old new : List Filed) (f : Filed) → new ≡ old ++ f ∷ [] → IsFileOf lies all f → All (IsFileOf lies all) old → All (IsFileOf lies all) new
+pushed-are lies all old new f is h are =
+    subst (λ (fs : List Filed). All (IsFileOf lies all) fs) (sym is)
+    (All-append (IsFileOf lies all) old (f ∷ []) are (All-cons (IsFileOf lies all) f [] h (All-nil (IsFileOf lies all))))
 
-has-extent : (lies : Bool) (all : List Marked) (xs : List Extent) → IsPermutation (extents_from lies 0 all) xs → (d : Extent) (k : ℕ) → k < length all → HasExtent xs d k
-has-extent lies all xs moved d k below =
-    let first = extents_from lies 0 all in
-    let x = get_or first k d in
-    let e = length-extents lies 0 all in
-    let inside : k < length first = omega arith in
-    let c = Contains-permutation first xs x moved (k, inside, any-default first k x d inside) in
-    record {
-      at = c.0;
-      within = c.1;
-      is = ap (λ (y : Extent). y.place) (any-default xs c.0 d x c.1) ∙ (ap (λ (y : Extent). y.place) c.2 ∙ (placed-from lies 0 k all d below ∙ zero-plus k));
-    }
+pub moved-filed : (lies : Bool) (width : ℕ) (all : List Marked) (old new : List Filed) → IsPermutation old new → AreFiled lies width all old → AreFiled lies width all new
+moved-filed lies width all old new moved h = record {
+  are = All-permutation (IsFileOf lies all) old new moved h.are;
+  each = λ i below c after before. Contains-permutation old new (filed_at c (extent_of lies i (get_or all i nothing).edge)) moved (h.each i below c after before);
+}
 
 order : (p q : ℕ) → (p < q) ⊎ ((q < p) ⊎ (p ≡ q))
 order zero zero = inr (inr refl)
@@ -224,35 +231,38 @@ order (suc p) (suc q) = one-up (order p q)
     one-up (inr (inl h)) = inr (inl (omega arith))
     one-up (inr (inr h)) = inr (inr (ap suc h))
 
-by-order : (all : List Marked) (pairs : List Pair) (xs : List Extent) (d : Extent) (i j : ℕ) (p : HasExtent xs d i) (q : HasExtent xs d j) → ComparedBelow all pairs xs (length xs) → i ≢ j → (p.at < q.at) ⊎ ((q.at < p.at) ⊎ (p.at ≡ q.at)) → IsPaired all pairs i j
-by-order all pairs xs d i j p q all' other (inl h) =
-    subst (λ (k : ℕ). IsPaired all pairs k j) p.is (subst (λ (k : ℕ). IsPaired all pairs (get_or xs p.at d).place k) q.is (all' p.at p.within q.at d h q.within).forth)
-by-order all pairs xs d i j p q all' other (inr (inl h)) =
-    subst (λ (k : ℕ). IsPaired all pairs k j) p.is (subst (λ (k : ℕ). IsPaired all pairs (get_or xs p.at d).place k) q.is (all' q.at q.within p.at d h p.within).back)
-by-order all pairs xs d i j p q all' other (inr (inr h)) =
-    absurd (other (sym p.is ∙ (ap (λ (k : ℕ). (get_or xs k d).place) h ∙ q.is)))
+by-order : (all : List Marked) (pairs : List Pair) (fs : List Filed) (d : Filed) (i j p q : ℕ) → p < length fs → q < length fs → (get_or fs p d).extent.place ≡ i → (get_or fs q d).extent.place ≡ j → (get_or fs p d).column ≡ (get_or fs q d).column → ComparedBelow all pairs fs (length fs) → i ≢ j → (p < q) ⊎ ((q < p) ⊎ (p ≡ q)) → IsPaired all pairs i j
+by-order all pairs fs d i j p q pin qin pis qis same all' other (inl h) =
+    subst (λ (k : ℕ). IsPaired all pairs k j) pis (subst (λ (k : ℕ). IsPaired all pairs (get_or fs p d).extent.place k) qis (all' p pin q d h qin same).forth)
+by-order all pairs fs d i j p q pin qin pis qis same all' other (inr (inl h)) =
+    subst (λ (k : ℕ). IsPaired all pairs k j) pis (subst (λ (k : ℕ). IsPaired all pairs (get_or fs p d).extent.place k) qis (all' q qin p d h pin (sym same)).back)
+by-order all pairs fs d i j p q pin qin pis qis same all' other (inr (inr h)) =
+    absurd (other (sym pis ∙ (ap (λ (k : ℕ). (get_or fs k d).extent.place) h ∙ qis)))
+
+in-column : (all : List Marked) (pairs : List Pair) (fs : List Filed) (c : ℕ) (x y : Extent) → Contains fs (filed_at c x) → Contains fs (filed_at c y) → ComparedBelow all pairs fs (length fs) → x.place ≢ y.place → IsPaired all pairs x.place y.place
+in-column all pairs fs c x y p q all' other =
+    let d = filed_at c x in
+    let pis : get_or fs p.0 d ≡ filed_at c x = p.2 in
+    let qis : get_or fs q.0 d ≡ filed_at c y = any-default fs q.0 d (filed_at c y) q.1 ∙ q.2 in
+    by-order all pairs fs d x.place y.place p.0 q.0 p.1 q.1
+    (ap (λ (f : Filed). f.extent.place) pis) (ap (λ (f : Filed). f.extent.place) qis)
+    (ap (λ (f : Filed). f.column) pis ∙ sym (ap (λ (f : Filed). f.column) qis)) all' other (order p.0 q.0)
+
+paired-by : (lies : Bool) (width : ℕ) (all : List Marked) (pairs : List Pair) (fs : List Filed) (i j : ℕ) (b : Bool) → AreFiled lies width all fs → ComparedBelow all pairs fs (length fs) → i < length all → j < length all → i ≢ j → touches (extent_of lies i (get_or all i nothing).edge).across (extent_of lies j (get_or all j nothing).edge).across ≡ b → IsPaired all pairs i j
+paired-by lies width all pairs fs i j true files all' iin jin other h =
+    let e = (get_or all i nothing).edge in
+    let f = (get_or all j nothing).edge in
+    let c = common width lies i j e f h in
+    in-column all pairs fs c.at (extent_of lies i e) (extent_of lies j f) (files.each i iin c.at c.after_first c.before_first) (files.each j jin c.at c.after_second c.before_second) all' other
+paired-by lies width all pairs fs i j false files all' iin jin other h =
+    (across-compared lies all pairs (extent_of lies i (get_or all i nothing).edge) (extent_of lies j (get_or all j nothing).edge) (record { within = iin; is = refl }) (record { within = jin; is = refl }) h).forth
 
 -- with all boxes compared, all edges are
-pub are-paired : (lies : Bool) (all : List Marked) (pairs : List Pair) (xs : List Extent) (r : ℕ) → length xs ≤ r → IsPermutation (extents_from lies 0 all) xs → ComparedBelow all pairs xs r → ArePaired all pairs
-are-paired lies all pairs xs r over moved so_far i j iin jin other =
-    let p = has-extent lies all xs moved no_extent i iin in
-    let q = has-extent lies all xs moved no_extent j jin in
-    by-order all pairs xs no_extent i j p q (λ k lt. so_far k (omega arith)) other (order p.at q.at)
+pub are-paired : (lies : Bool) (width : ℕ) (all : List Marked) (pairs : List Pair) (fs : List Filed) → AreFiled lies width all fs → ComparedBelow all pairs fs (length fs) → ArePaired all pairs
+are-paired lies width all pairs fs files all' i j iin jin other =
+    paired-by lies width all pairs fs i j (touches (extent_of lies i (get_or all i nothing).edge).across (extent_of lies j (get_or all j nothing).edge).across) files all' iin jin other refl
 
 -- in another order they are the same pairs
 
 pub moved-paired : (all : List Marked) (old new : List Pair) → IsPermutation old new → ArePaired all old → ArePaired all new
 moved-paired all old new moved h i j iin jin other = still-paired all old new i j (λ p there. Contains-permutation old new p moved there) (h i j iin jin other)
-
--- what a sort by low ends says of two boxes
-
-cmp-lt : (l g : Bool) → is_lt (cond l Less (cond g Greater Equal)) ≡ l
-cmp-lt true g = refl
-cmp-lt false true = refl
-cmp-lt false false = refl
-
-le-not-lt : (m n : ℤ) → int_lt n m ≡ false → m ≤ℤ n
-le-not-lt m n h = grind (arith, ints)
-
-pub not-less : (m n : ℤ) → is_lt (int_cmp n m) ≡ false → m ≤ℤ n
-not-less m n h = le-not-lt m n (sym (cmp-lt (int_lt n m) (int_lt m n)) ∙ h)

@@ -5,3 +5,4 @@ pub mod Pairs
 pub mod Sides
 pub mod Gathered
 pub mod Passes
+pub mod News

@@ -59,6 +59,44 @@ fn union(s: Span, t: Span) -> Span {
     }
 }
 
+/// The range of edges along each axis, and their lengths along it in all.
+#[derive(Clone, Copy)]
+pub(crate) struct Cover {
+    count: u64,
+    wide: Span,
+    high: Span,
+    widths: u64,
+    heights: u64,
+}
+
+pub(crate) fn cover_of(all: &[Marked]) -> Cover {
+    let none = Span { low: 0, high: 0 };
+    let mut cover = Cover {
+        count: 0,
+        wide: none,
+        high: none,
+        widths: 0,
+        heights: 0,
+    };
+    for m in all {
+        cover = cover_with(cover, m.edge);
+    }
+    cover
+}
+
+fn cover_with(cover: Cover, e: Edge) -> Cover {
+    let wide = width(e);
+    let high = height(e);
+    let first = cover.count == 0;
+    Cover {
+        count: cover.count.saturating_add(1),
+        wide: if first { wide } else { union(cover.wide, wide) },
+        high: if first { high } else { union(cover.high, high) },
+        widths: cover.widths.saturating_add(length(wide)),
+        heights: cover.heights.saturating_add(length(high)),
+    }
+}
+
 // How often spans of this length in all cover a range, against others and theirs.
 fn covers_more(all: u64, range: u64, others: u64, their_range: u64) -> bool {
     u128::from(all).wrapping_mul(u128::from(their_range))
@@ -67,19 +105,41 @@ fn covers_more(all: u64, range: u64, others: u64, their_range: u64) -> bool {
 
 /// Whether the edges overlap more in x than in y, all in all. That decides along which axis boxes are
 /// compared: of time alone.
-pub(crate) fn is_wide(all: &[Marked]) -> bool {
-    if all.is_empty() {
-        return false;
+pub(crate) fn is_wide(cover: Cover) -> bool {
+    covers_more(
+        cover.widths,
+        length(cover.wide),
+        cover.heights,
+        length(cover.high),
+    )
+}
+
+// Where so many boxes share a place on the axis, columns are worth their while.
+const MANY: u64 = 16;
+
+fn are_many(lengths: u64, range: u64) -> bool {
+    lengths / MANY > range
+}
+
+// Four times the length of an edge across, so that most edges lie in one column.
+fn four_edges(lengths: u64, count: u64) -> u32 {
+    if count == 0 {
+        return 0;
     }
-    let mut wide = width(all[0].edge);
-    let mut high = height(all[0].edge);
-    let mut widths = 0u64;
-    let mut heights = 0u64;
-    for m in all {
-        wide = union(wide, width(m.edge));
-        high = union(high, height(m.edge));
-        widths = widths.saturating_add(length(width(m.edge)));
-        heights = heights.saturating_add(length(height(m.edge)));
+    let width = (lengths / count).saturating_mul(4);
+    if width > 4_294_967_295 {
+        return 4_294_967_295;
     }
-    covers_more(widths, length(wide), heights, length(high))
+    width as u32
+}
+
+/// How wide the columns are: 0, for one that holds all, unless many boxes overlap along the axis. Of time alone.
+pub(crate) fn column_width(cover: Cover, lies: bool) -> u32 {
+    if lies && are_many(cover.widths, length(cover.wide)) {
+        return four_edges(cover.heights, cover.count);
+    }
+    if !lies && are_many(cover.heights, length(cover.high)) {
+        return four_edges(cover.widths, cover.count);
+    }
+    0
 }

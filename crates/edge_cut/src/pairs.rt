@@ -1,16 +1,17 @@
-// Pairs of edges that may meet elsewhere than at their ends. The boxes round the edges stand by their low
-// ends, so that those which can touch a box stand in one stretch behind it.
+// Pairs of edges that may meet elsewhere than at their ends. The boxes round the edges stand in columns, and in
+// each by their low ends, so that those which can touch a box there stand in one stretch behind it.
 
-ghost use Rattle.std.specs.Prelude.{◌≡◌, ◌+◌, ◌*◌, ◌<◌, ◌≤◌, ◌^◌, ◌++◌, ◌&&◌, ◌||◌, ℕ, pos, true, length, cond, OnOk, IfOk, int_le, int_lt, slice_index_or};
-ghost use Rattle.std.specs.List.{All};
-ghost use Rattle.std.specs.List.Sorted.{IsPermutation};
+ghost use Rattle.std.specs.Prelude.{◌≡◌, ◌+◌, ◌*◌, ◌<◌, ◌≤◌, ◌/◌, ◌++◌, [], ◌∷◌, ◌&&◌, ◌||◌, not, ℕ, Bool, List, pos, true, false, length, OnOk, IfOk, nat_le, int_lt, slice_index_or};
+ghost use Rattle.std.specs.List.{All, Contains};
+ghost use Rattle.edge_cut.specs.declared.passes.Marked.{Marked};
 ghost use Rattle.std.specs.Ordering.{int_eq};
 ghost use Rattle.slice_base.specs.Plane.{same_point, cross_of};
 ghost use Rattle.edge_cut.specs.Ordered.{MeetsAtEnds};
 ghost use Rattle.edge_cut.specs.Inner.Heights.{height_of, width_of};
-ghost use Rattle.edge_cut.specs.Inner.Pairs.{extent_of, extents_from, AreRising, IsExtentOf, IsPaired, AreCompared};
-ghost use Rattle.edge_cut.specs.Inner.Pairs.{Keeps, IsInside, ComparedUpTo, ArePaired, ByFirst};
+ghost use Rattle.edge_cut.specs.Inner.Pairs.{extent_of, above_least, column_of, first_column_of, last_column_of, key_of, limit_of, filed_at, AreRising, IsExtentOf, IsFileOf, IsFiled, AreFiled, IsPaired, AreCompared};
+ghost use Rattle.edge_cut.specs.Inner.Pairs.{Keeps, KeepsFiles, IsInside, ComparedUpTo, ComparedBelow, ArePaired, ByFirst};
 ghost use Rattle.edge_cut.specs.Inner.Places.{nothing, seconds};
+ghost use Rattle.edge_cut.specs.Inner.News.{AreSettled};
 ghost use Rattle.edge_cut.specs.Inner.Sides.{AreSides, share_end, have_ends};
 
 use crate::boxes::{are_apart, height, width};
@@ -53,25 +54,136 @@ fn extent_of(lies: bool, place: u32, e: Edge) -> Extent
     }
 }
 
-fn extents_from(alloc: Global, lies: bool, all: &[Marked]) -> Result<Vec<Extent>, NoMemory>
-    requires { length all.now ≤ 100000 }
-    ensures { IfOk result (λ extents. extents.items ≡ extents_from lies 0 all.now) }
-{
-    let mut extents = Vec::new(alloc);
-    for place in 0..all.len() {
-        extents.push(extent_of(lies, place as u32, all[place].edge))?;
-    }
-    Ok(extents)
+/// A box in one of the columns across the axis that it touches. The keys order by columns, and in a column by the
+/// low ends of the boxes.
+#[derive(Clone, Copy)]
+pub(crate) struct Filed {
+    key: u64,
+    column: u32,
+    extent: Extent,
 }
 
-fn sorted_extents(alloc: Global, lies: bool, all: &[Marked]) -> Result<Vec<Extent>, NoMemory>
-    requires { length all.now ≤ 100000 }
-    ensures moved { IfOk result (λ extents. IsPermutation (extents_from lies 0 all.now) extents.items) }
-    ensures rising { IfOk result (λ extents. AreRising extents.items) }
+// A coordinate.
+#[derive(Clone, Copy)]
+struct Coordinate {
+    at: i32,
+}
+
+// How far it stands above the least one.
+fn above_least(x: Coordinate) -> u32
+    ensures { result ≡ above_least x.at }
 {
-    let mut extents = extents_from(alloc, lies, all)?;
-    extents.sort_unstable_by_key(|x| x.along.low);
-    Ok(extents)
+    (x.at as i64 + 2_147_483_648).unsigned_abs() as u32
+}
+
+// The column of the coordinate; all are in the first one where the columns have no width.
+fn column_of(x: Coordinate, width: u32) -> u32
+    ensures { result ≡ column_of width x.at }
+{
+    if width == 0 {
+        return 0;
+    }
+    above_least(x) / width
+}
+
+fn key_of(column: u32, x: Coordinate) -> u64
+    ensures { result ≡ key_of column x.at }
+{
+    column as u64 * 4_294_967_296 + above_least(x) as u64
+}
+
+fn filed_at(column: u32, extent: Extent) -> Filed
+    ensures { result ≡ filed_at column extent }
+{
+    Filed {
+        key: key_of(
+            column,
+            Coordinate {
+                at: extent.along.low,
+            },
+        ),
+        column,
+        extent,
+    }
+}
+
+// Files the box in the columns from `first` to `last`.
+fn push_columns(
+    files: &mut Vec<Filed>,
+    extent: Extent,
+    first: u32,
+    last: u32,
+) -> Result<(), NoMemory>
+    ensures kept { OnOk result (KeepsFiles files.old.items files.new.items) }
+    ensures are { OnOk result ((lies : Bool) → (all : List Marked) → IsExtentOf lies all extent
+        → All (IsFileOf lies all) files.old.items → All (IsFileOf lies all) files.new.items) }
+    ensures each { OnOk result ((c : ℕ) → first ≤ c → c < last + 1 → Contains files.new.items (filed_at c extent)) }
+{
+    let end = last as u64 + 1;
+    for column in (first as u64)..end {
+        files.push(filed_at(column as u32, extent))?;
+    }
+    Ok(())
+}
+
+fn first_column(extent: Extent, width: u32) -> u32
+    ensures { result ≡ first_column_of width extent }
+{
+    column_of(
+        Coordinate {
+            at: extent.across.low,
+        },
+        width,
+    )
+}
+
+fn last_column(extent: Extent, width: u32) -> u32
+    ensures { result ≡ last_column_of width extent }
+{
+    column_of(
+        Coordinate {
+            at: extent.across.high,
+        },
+        width,
+    )
+}
+
+// Files the box in all columns that it touches.
+fn file(files: &mut Vec<Filed>, extent: Extent, width: u32) -> Result<(), NoMemory>
+    ensures kept { OnOk result (KeepsFiles files.old.items files.new.items) }
+    ensures are { OnOk result ((lies : Bool) → (all : List Marked) → IsExtentOf lies all extent
+        → All (IsFileOf lies all) files.old.items → All (IsFileOf lies all) files.new.items) }
+    ensures each { OnOk result (IsFiled width extent files.new.items) }
+{
+    let first = first_column(extent, width);
+    let last = last_column(extent, width);
+    push_columns(files, extent, first, last)?;
+    Ok(())
+}
+
+fn files_of(alloc: Global, lies: bool, width: u32, all: &[Marked]) -> Result<Vec<Filed>, NoMemory>
+    requires { length all.now ≤ 100000 }
+    ensures { IfOk result (λ files. AreFiled lies width all.now files.items) }
+{
+    let mut files = Vec::new(alloc);
+    for place in 0..all.len() {
+        file(
+            &mut files,
+            extent_of(lies, place as u32, all[place].edge),
+            width,
+        )?;
+    }
+    Ok(files)
+}
+
+fn sorted(alloc: Global, lies: bool, width: u32, all: &[Marked]) -> Result<Vec<Filed>, NoMemory>
+    requires { length all.now ≤ 100000 }
+    ensures filed { IfOk result (λ files. AreFiled lies width all.now files.items) }
+    ensures rising { IfOk result (λ files. AreRising files.items) }
+{
+    let mut files = files_of(alloc, lies, width, all)?;
+    files.sort_unstable_by_key(|f| f.key);
+    Ok(files)
 }
 
 // On which side of an edge the two ends of another one lie: above 0 to its left.
@@ -134,8 +246,29 @@ fn meets_at_ends(e: Edge, f: Marked) -> bool
 /// The most pairs that are listed: 64 MB. Edges with more of them are too tangled.
 const MOST_PAIRS: usize = 8_000_000;
 
-// Past the most pairs it answers as if there were no memory.
-fn push_pair(pairs: &mut Vec<Pair>, all: &[Marked], i: u32, j: u32) -> Result<(), NoMemory>
+/// Why pairs weren't listed.
+#[derive(Clone, Copy)]
+pub(crate) enum PairFault {
+    /// There are more than 8,000,000.
+    TooMany,
+    /// There was no memory for them.
+    NoMemory,
+}
+
+impl From<NoMemory> for PairFault {
+    fn from(_: NoMemory) -> Self {
+        PairFault::NoMemory
+    }
+}
+
+fn push(pairs: &mut Vec<Pair>, pair: Pair) -> Result<(), NoMemory>
+    ensures ok { OnOk result (pairs.new.items ≡ pairs.old.items ++ pair ∷ []) }
+{
+    pairs.push(pair)?;
+    Ok(())
+}
+
+fn push_pair(pairs: &mut Vec<Pair>, all: &[Marked], i: u32, j: u32) -> Result<(), PairFault>
     requires i_in { i < length all.now }
     requires j_in { j < length all.now }
     requires inside { All (IsInside (length all.now)) pairs.old.items }
@@ -147,16 +280,19 @@ fn push_pair(pairs: &mut Vec<Pair>, all: &[Marked], i: u32, j: u32) -> Result<()
         return Ok(());
     }
     if pairs.len() >= MOST_PAIRS {
-        return Err(NoMemory);
+        return Err(PairFault::TooMany);
     }
-    pairs.push(Pair {
-        first: i,
-        second: j,
-    })?;
+    push(
+        pairs,
+        Pair {
+            first: i,
+            second: j,
+        },
+    )?;
     Ok(())
 }
 
-fn push_both(pairs: &mut Vec<Pair>, all: &[Marked], i: u32, j: u32) -> Result<(), NoMemory>
+fn push_both(pairs: &mut Vec<Pair>, all: &[Marked], i: u32, j: u32) -> Result<(), PairFault>
     requires i_in { i < length all.now }
     requires j_in { j < length all.now }
     requires inside { All (IsInside (length all.now)) pairs.old.items }
@@ -168,13 +304,24 @@ fn push_both(pairs: &mut Vec<Pair>, all: &[Marked], i: u32, j: u32) -> Result<()
     push_pair(pairs, all, j, i)
 }
 
+// Two edges that aren't new meet at their ends alone.
+fn are_old(news: &[bool], i: u32, j: u32) -> bool
+    requires i_in { i < length news.now }
+    requires j_in { j < length news.now }
+    ensures { result ≡ (not (slice_index_or news.now i false) && not (slice_index_or news.now j false)) }
+{
+    !news[i as usize] && !news[j as usize]
+}
+
 fn compare(
     pairs: &mut Vec<Pair>,
     all: &[Marked],
+    news: &[bool],
     lies: bool,
     a: Extent,
     b: Extent,
-) -> Result<(), NoMemory>
+) -> Result<(), PairFault>
+    requires settled { AreSettled all.now news.now }
     requires a_is { IsExtentOf lies all.now a }
     requires b_is { IsExtentOf lies all.now b }
     requires inside { All (IsInside (length all.now)) pairs.old.items }
@@ -185,34 +332,52 @@ fn compare(
     if are_apart(a.across, b.across) {
         return Ok(());
     }
+    if are_old(news, a.place, b.place) {
+        return Ok(());
+    }
     push_both(pairs, all, a.place, b.place)
 }
 
-fn is_up_to(a: Extent, b: Extent) -> bool
-    ensures { result ≡ int_le b.along.low a.along.high }
+// The greatest key of a box in the same column that begins up to this one's high end.
+fn limit_of(f: Filed) -> u64
+    ensures { result ≡ limit_of f }
 {
-    b.along.low <= a.along.high
+    key_of(
+        f.column,
+        Coordinate {
+            at: f.extent.along.high,
+        },
+    )
 }
 
-// Compares the box at `r` with all behind it.
+fn is_up_to(f: Filed, limit: u64) -> bool
+    ensures { result ≡ nat_le f.key limit }
+{
+    f.key <= limit
+}
+
+// Compares the box at `r` with those behind it in its column.
 fn compare_from(
     pairs: &mut Vec<Pair>,
     all: &[Marked],
+    news: &[bool],
     lies: bool,
-    extents: &[Extent],
+    files: &[Filed],
     r: usize,
-) -> Result<(), NoMemory>
-    requires within { r < length extents.now }
-    requires rising { AreRising extents.now }
-    requires are { All (IsExtentOf lies all.now) extents.now }
+) -> Result<(), PairFault>
+    requires settled { AreSettled all.now news.now }
+    requires within { r < length files.now }
+    requires rising { AreRising files.now }
+    requires are { All (IsFileOf lies all.now) files.now }
     requires inside { All (IsInside (length all.now)) pairs.old.items }
     ensures kept { OnOk result (Keeps pairs.old.items pairs.new.items) }
-    ensures compared { OnOk result (ComparedUpTo all.now pairs.new.items extents.now r (length extents.now)) }
+    ensures compared { OnOk result (ComparedUpTo all.now pairs.new.items files.now r (length files.now)) }
     ensures inside { OnOk result (All (IsInside (length all.now)) pairs.new.items) }
 {
+    let limit = limit_of(files[r]);
     let mut s = r + 1;
-    'walk: while s < extents.len() && is_up_to(extents[r], extents[s]) {
-        compare(pairs, all, lies, extents[r], extents[s])?;
+    'walk: while s < files.len() && is_up_to(files[s], limit) {
+        compare(pairs, all, news, lies, files[r].extent, files[s].extent)?;
         s += 1;
     }
     Ok(())
@@ -221,32 +386,41 @@ fn compare_from(
 fn pairs_of(
     alloc: Global,
     all: &[Marked],
+    news: &[bool],
     lies: bool,
-    extents: &[Extent],
-) -> Result<Vec<Pair>, NoMemory>
-    requires moved { IsPermutation (extents_from lies 0 all.now) extents.now }
-    requires rising { AreRising extents.now }
-    ensures paired { IfOk result (λ pairs. ArePaired all.now pairs.items) }
+    files: &[Filed],
+) -> Result<Vec<Pair>, PairFault>
+    requires settled { AreSettled all.now news.now }
+    requires rising { AreRising files.now }
+    requires are { All (IsFileOf lies all.now) files.now }
+    ensures compared { IfOk result (λ pairs. ComparedBelow all.now pairs.items files.now (length files.now)) }
     ensures inside { IfOk result (λ pairs. All (IsInside (length all.now)) pairs.items) }
 {
     let mut pairs = Vec::new(alloc);
-    for r in 0..extents.len() {
-        compare_from(&mut pairs, all, lies, extents, r)?;
+    for r in 0..files.len() {
+        compare_from(&mut pairs, all, news, lies, files, r)?;
     }
     Ok(pairs)
 }
 
 /// All pairs of which the first edge may meet the second elsewhere than at its own ends, by their first
-/// edges; want of memory also where there are more than 8,000,000. `lies` says along which axis the boxes are
-/// taken: any is right, and one of them may be fast.
-pub(crate) fn find_pairs(alloc: Global, all: &[Marked], lies: bool) -> Result<Vec<Pair>, NoMemory>
-    requires { length all.now ≤ 100000 }
+/// edges, some of them maybe more than once. `lies` says along which axis the boxes are taken, and `width` how
+/// wide the columns across it are: any are right, and some may be fast.
+pub(crate) fn find_pairs(
+    alloc: Global,
+    all: &[Marked],
+    news: &[bool],
+    lies: bool,
+    width: u32,
+) -> Result<Vec<Pair>, PairFault>
+    requires few { length all.now ≤ 100000 }
+    requires settled { AreSettled all.now news.now }
     ensures paired { IfOk result (λ pairs. ArePaired all.now pairs.items) }
     ensures inside { IfOk result (λ pairs. All (IsInside (length all.now)) pairs.items) }
     ensures rising { IfOk result (λ pairs. ByFirst pairs.items) }
 {
-    let extents = sorted_extents(alloc, lies, all)?;
-    let mut pairs = pairs_of(alloc, all, lies, extents.as_slice())?;
+    let files = sorted(alloc, lies, width, all)?;
+    let mut pairs = pairs_of(alloc, all, news, lies, files.as_slice())?;
     pairs.sort_unstable_by_key(|p| p.first);
     Ok(pairs)
 }

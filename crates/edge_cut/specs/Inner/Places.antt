@@ -5,7 +5,10 @@ use Rattle.edge_cut.specs.declared.pairs.Pair.{Pair}
 
 -- what a place past the end would read
 abbrev pub nothing : Marked
-nothing = record { edge = record { from = record { x = pos 0; y = pos 0 }; to = record { x = pos 0; y = pos 0 } }; second = false }
+nothing = record {
+  edge = record { from = record { x = pos 0; y = pos 0 }; to = record { x = pos 0; y = pos 0 } };
+  second = false;
+}
 
 -- what a place past the end would read
 abbrev pub no_pair : Pair

@@ -1,16 +1,21 @@
-use Rattle.std.proofs.Common.{◌≡◌, ◌<◌, false, length, get_or, arith, sym, ◌∙◌}
-use Rattle.std.specs.Prelude.{int_le}
-use Rattle.edge_cut.specs.Inner.Pairs.{no_extent}
+use Rattle.std.proofs.Common.{◌<◌, length, get_or, arith, sym, ◌∙◌}
+use Rattle.edge_cut.specs.Inner.Pairs.{no_file}
 use Rattle.edge_cut.proofs.Compared.{any-default, keeps-then, one-compared, rest-compared, all-behind}
 use Rattle.edge_cut.proofs.pairs.compare_from.Goals as goal
 
+pub compare-requires-clause-a_is : goal.compare-requires-clause-a_is
+compare-requires-clause-a_is c = (c.requires.are c.args.r no_file c.requires.within).extent
+
+pub compare-requires-clause-b_is : goal.compare-requires-clause-b_is
+compare-requires-clause-b_is c = (c.requires.are c.walk.s no_file c.walk-test.true).extent
+
 pub walk-preserved : goal.walk-preserved
 walk-preserved c =
-    let xs = c.args.extents.now in
+    let fs = c.args.files.now in
     let r = c.args.r in
     let s = c.walk.s in
     let h = c.walk.invariant in
-    let below : s < length xs = c.walk-test.true in
+    let below : s < length fs = c.walk-test.true in
     let old = c.walk.pairs.items in
     let new = c.compare.new.pairs.items in
     record {
@@ -18,15 +23,14 @@ walk-preserved c =
       within = omega arith;
       kept = keeps-then c.args.pairs.now.items old new h.kept c.in_ok-compare.ensures.kept;
       inside = c.in_ok-compare.ensures.inside;
-      so_far = one-compared c.args.all.now old new xs r s (get_or xs r no_extent) (get_or xs s no_extent) h.behind below (λ d. any-default xs r d no_extent c.requires.within) (λ d. any-default xs s d no_extent below) c.in_ok-compare.ensures.kept h.so_far c.in_ok-compare.ensures.compared;
+      so_far = one-compared c.args.all.now old new fs r s (get_or fs r no_file) (get_or fs s no_file) h.behind below (λ d. any-default fs r d no_file c.requires.within) (λ d. any-default fs s d no_file below) c.in_ok-compare.ensures.kept h.so_far c.in_ok-compare.ensures.compared;
     }
 
 pub returns-else-is_up_to-clause-compared : goal.returns-else-is_up_to-clause-compared
 returns-else-is_up_to-clause-compared c =
-    let xs = c.args.extents.now in
-    let over : int_le (get_or xs c.walk.s no_extent).along.low (get_or xs c.args.r no_extent).along.high ≡ false = sym c.is_up_to.ensures ∙ c.if-is_up_to.false in
-    rest-compared c.args.lies c.args.all.now c.walk.pairs.items xs c.args.r c.walk.s no_extent c.requires.within c.walk-test.true c.requires.rising c.requires.are over c.walk.invariant.so_far
+    let fs = c.args.files.now in
+    rest-compared c.args.lies c.args.all.now c.walk.pairs.items fs c.args.r c.walk.s no_file c.limit_of-limit.result c.requires.within c.walk-test.true c.requires.rising c.requires.are c.limit_of-limit.ensures (sym c.is_up_to.ensures ∙ c.if-is_up_to.false) c.walk.invariant.so_far
 
 pub returns-after-walk-clause-compared : goal.returns-after-walk-clause-compared
 returns-after-walk-clause-compared c =
-    all-behind c.args.all.now c.walk.pairs.items c.args.extents.now c.args.r c.walk.s c.walk-test.false c.walk.invariant.so_far
+    all-behind c.args.all.now c.walk.pairs.items c.args.files.now c.args.r c.walk.s c.walk-test.false c.walk.invariant.so_far

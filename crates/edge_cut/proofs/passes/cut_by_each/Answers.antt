@@ -1,8 +1,10 @@
-use Rattle.std.proofs.Common.{◌≤◌, ◌+◌, ◌*◌, List, length, get_or, arith, ap, sym, subst}
+use Rattle.std.proofs.Common.{◌≤◌, ◌+◌, ◌*◌, List, length, get_or, arith, ap, sym, subst, ◌∙◌}
 use Rattle.std.specs.List.{All}
 use Rattle.edge_cut.specs.declared.pairs.Pair.{Pair}
 use Rattle.edge_cut.specs.Inner.Places.{nothing}
 use Rattle.edge_cut.specs.Inner.Pairs.{IsInside}
+use Rattle.edge_cut.proofs.Compared.{any-default}
+use Rattle.edge_cut.proofs.Told.{told-settled}
 use Rattle.edge_cut.proofs.Counts.{so_far-step, count-each}
 use Rattle.edge_cut.proofs.Read.{each-enough}
 use Rattle.edge_cut.proofs.passes.cut_by_each.Goals as goal
@@ -25,4 +27,8 @@ loop-m-preserved c =
     record {
       small = count-each c.args.all.now c.loop-m.m-index c.loop-m.pieces c.add_pieces.new.pieces m.second c.stops_of.new.stops.items few c.requires adds c.loop-m.invariant.small;
       so_far = so_far-step c.args.all.now c.loop-m.m-index c.loop-m.pieces c.add_pieces.new.pieces c.loop-m-test.true adds_stops c.loop-m.invariant.so_far;
+      told = c.in_ok-add_pieces.ensures.told c.args.all.now (c.loop-m.m-index, c.loop-m-test.true, any-default c.args.all.now c.loop-m.m-index m nothing c.loop-m-test.true) (c.as_slice-in-loop-m.ensures.value ∙ c.in_ok-stops_of.ensures.ok) c.loop-m.invariant.told;
     }
+
+pub returns-clause-settled : goal.returns-clause-settled
+returns-clause-settled c = told-settled c.args.all.now c.loop-m.pieces.list.items c.loop-m.pieces.news.items c.loop-m.invariant.told

@@ -1,6 +1,8 @@
-use Rattle.std.proofs.Common.{◌≤◌, ◌+◌, ◌-◌, ◌*◌, length, get_or, drop, arith}
+use Rattle.std.proofs.Common.{◌≤◌, ◌+◌, ◌-◌, ◌*◌, length, get_or, drop, arith, ◌∙◌}
 use Rattle.std.proofs.lemmas.List.{length-take}
 use Rattle.edge_cut.specs.Inner.Places.{nothing}
+use Rattle.edge_cut.proofs.Compared.{any-default}
+use Rattle.edge_cut.proofs.Told.{told-settled}
 use Rattle.edge_cut.proofs.Counts.{so_far-step, count-step}
 use Rattle.edge_cut.proofs.Read.{group-has}
 use Rattle.edge_cut.proofs.passes.cut_by_pairs.Goals as goal
@@ -24,4 +26,8 @@ loop-place-preserved c =
       grouped = c.group_end-end.ensures.next;
       small = count-step place c.loop-place.done c.group_end-end.result c.loop-place.pieces c.add_pieces.new.pieces m.second c.find_stops.new.stops.items c.group_end-end.ensures.later few adds h.small;
       so_far = so_far-step c.args.all.now place c.loop-place.pieces c.add_pieces.new.pieces c.loop-place-test.true adds_stops h.so_far;
+      told = c.in_ok-add_pieces.ensures.told c.args.all.now (place, c.loop-place-test.true, any-default c.args.all.now place m nothing c.loop-place-test.true) (c.as_slice.ensures.value ∙ c.in_ok-find_stops.ensures.ok) h.told;
     }
+
+pub returns-clause-settled : goal.returns-clause-settled
+returns-clause-settled c = told-settled c.args.all.now c.loop-place.pieces.list.items c.loop-place.pieces.news.items c.loop-place.invariant.told

@@ -1,6 +1,7 @@
 use Rattle.std.proofs.Common.{◌≤◌, ◌+◌, ◌*◌, drop, length}
 use Rattle.edge_cut.specs.Cut.{cut_by, pass_of}
 use Rattle.edge_cut.specs.Inner.Pairs.{FirstFrom}
+use Rattle.edge_cut.specs.Inner.News.{AreTold}
 use Rattle.edge_cut.proofs.Counts.{SoFar}
 use Rattle.edge_cut.proofs.passes.cut_by_pairs.Given as goal
 
@@ -10,4 +11,5 @@ invariant-loop-place l = record {
   grouped : FirstFrom l.pairs l.done l.place;
   small : l.pieces.count ≤ 2 * l.done + 2 * l.place;
   so_far : SoFar l.pieces (cut_by l.all (drop l.place l.all)) (pass_of l.all);
+  told : AreTold l.all l.pieces.list.items l.pieces.news.items;
 }
