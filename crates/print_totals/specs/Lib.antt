@@ -1,0 +1,4 @@
+pub mod Totals
+pub mod Spending
+pub mod Told
+pub mod Inner
