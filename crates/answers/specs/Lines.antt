@@ -16,7 +16,8 @@ scope_text (scope.Mesh i) = codes "mesh " ++ decimal i
 
 -- where cutting gave too many edges, and how many
 abbrev pub tangle_text : ℕ → ℕ → ℕ → List ℕ
-tangle_text mesh layer n = codes "too tangled: mesh " ++ decimal mesh ++ codes " layer " ++ decimal layer ++ codes " count " ++ decimal n
+tangle_text mesh layer n =
+    codes "too tangled: mesh " ++ decimal mesh ++ codes " layer " ++ decimal layer ++ codes " count " ++ decimal n
 
 -- why the job wasn't done
 abbrev pub refusal_text : Refusal → List ℕ
@@ -31,8 +32,10 @@ refusal_text (refusal.OutOfRange scope key) = codes "out of range: " ++ scope_te
 refusal_text (refusal.UnknownExtruder i) = codes "unknown extruder: mesh " ++ decimal i
 refusal_text (refusal.BadStl i line) = codes "bad STL: mesh " ++ decimal i ++ codes " line " ++ decimal line
 refusal_text (refusal.NoTriangles i) = codes "no triangles: mesh " ++ decimal i
-refusal_text (refusal.TooManyTriangles i n) = codes "too many triangles: mesh " ++ decimal i ++ codes " count " ++ decimal n
-refusal_text (refusal.OutsideVolume i n) = codes "outside the volume: mesh " ++ decimal i ++ codes " triangle " ++ decimal n
+refusal_text (refusal.TooManyTriangles i n) =
+    codes "too many triangles: mesh " ++ decimal i ++ codes " count " ++ decimal n
+refusal_text (refusal.OutsideVolume i n excess) =
+    codes "outside the volume: mesh " ++ decimal i ++ codes " triangle " ++ decimal n
 refusal_text refusal.NoLayers = codes "no layers"
 refusal_text (refusal.TooManyLayers n) = codes "too many layers: " ++ decimal n
 refusal_text (refusal.TooTangled i layer n) = tangle_text i layer n
@@ -66,5 +69,7 @@ step_line s worker layer = step_text s ++ decimal worker ++ codes " " ++ decimal
 -- the line of a job that was generated
 abbrev pub generated_line : Generated → List ℕ
 generated_line g =
-    codes "gen " ++ decimal g.number ++ codes ": triangles " ++ decimal g.triangles ++ codes ", layers " ++ decimal g.layers
-    ++ codes ", uses " ++ decimal g.uses ++ codes ", preheats " ++ decimal g.preheats ++ codes ", bytes " ++ decimal g.bytes ++ codes "\n"
+    codes "gen " ++ decimal g.number ++ codes ": triangles " ++ decimal g.triangles ++ codes ", layers "
+    ++ decimal g.layers
+    ++ codes ", uses " ++ decimal g.uses ++ codes ", preheats " ++ decimal g.preheats ++ codes ", bytes "
+    ++ decimal g.bytes ++ codes "\n"

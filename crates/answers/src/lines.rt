@@ -62,7 +62,7 @@ fn put_text<S: Sink>(console: &mut S, refusal: &Refusal) -> Result<(), Failed>
             b" count ",
             *count as u128,
         ),
-        Refusal::OutsideVolume { mesh, triangle } => put_numbers(
+        Refusal::OutsideVolume { mesh, triangle, .. } => put_numbers(
             console,
             b"outside the volume: mesh ",
             *mesh as u128,

@@ -3,6 +3,7 @@
 ghost use Rattle.std.specs.Prelude.{◌≡◌};
 ghost use Rattle.answers.specs.Statuses.{status_of};
 
+use mesh_placing::Excess;
 use settings_core::Scope;
 use slice_base::{NoMemory, Text};
 
@@ -13,37 +14,71 @@ use slice_base::{NoMemory, Text};
 #[derive(Drop)]
 pub enum Refusal {
     /// That word is the first at fault.
-    BadWord { index: u64 },
+    BadWord {
+        index: u64,
+    },
     /// There is no mesh.
     NoInput,
     /// There is no file to write.
     NoOutput,
     /// Reading that file failed.
-    ReadFault { name: Text },
+    ReadFault {
+        name: Text,
+    },
     /// That file has over 268,435,456 bytes.
-    TooLong { name: Text },
+    TooLong {
+        name: Text,
+    },
     /// That file isn't a settings file.
-    NotJson { name: Text },
+    NotJson {
+        name: Text,
+    },
     /// The first pair at fault has no value of its setting.
-    BadValue { scope: Scope, key: Text },
+    BadValue {
+        scope: Scope,
+        key: Text,
+    },
     /// The first pair at fault has a value outside its setting's range.
-    OutOfRange { scope: Scope, key: Text },
+    OutOfRange {
+        scope: Scope,
+        key: Text,
+    },
     /// That mesh is the first whose extruder the printer doesn't have.
-    UnknownExtruder { mesh: u8 },
+    UnknownExtruder {
+        mesh: u8,
+    },
     /// That line of the mesh's file is the first at fault.
-    BadStl { mesh: u8, line: u32 },
+    BadStl {
+        mesh: u8,
+        line: u32,
+    },
     /// The mesh has that many facets, over 1,000,000.
-    TooManyTriangles { mesh: u8, count: u32 },
+    TooManyTriangles {
+        mesh: u8,
+        count: u32,
+    },
     /// The mesh has no triangle.
-    NoTriangles { mesh: u8 },
-    /// That triangle is the first with a corner outside the build volume.
-    OutsideVolume { mesh: u8, triangle: u32 },
+    NoTriangles {
+        mesh: u8,
+    },
+    /// That triangle is the first with a corner outside the build volume, and so far the mesh reaches out.
+    OutsideVolume {
+        mesh: u8,
+        triangle: u32,
+        excess: Excess,
+    },
     /// No mesh reaches above the middle of the first layer.
     NoLayers,
     /// There are that many layers, over 40,000.
-    TooManyLayers { count: u32 },
+    TooManyLayers {
+        count: u32,
+    },
     /// In that layer of the mesh cutting gave that many edges, over 100,000.
-    TooTangled { mesh: u8, layer: u32, count: u64 },
+    TooTangled {
+        mesh: u8,
+        layer: u32,
+        count: u64,
+    },
     /// There was no memory.
     NoMemory,
     /// The output failed.

@@ -1,4 +1,5 @@
 use super::*;
+use mesh_placing::{Excess, Side};
 use outside::MemSink;
 use settings_core::Scope;
 use slice_base::Text;
@@ -107,7 +108,14 @@ fn meshes_that_are_at_fault_are_named(rt: HostRuntime) -> Result<(), Fail> {
     says(
         &rt,
         alloc,
-        Refusal::OutsideVolume { mesh, triangle },
+        Refusal::OutsideVolume {
+            mesh,
+            triangle,
+            excess: Excess {
+                side: Side::Back,
+                by: 3,
+            },
+        },
         "error: outside the volume: mesh 1 triangle 7\n",
     )?;
     says(&rt, alloc, Refusal::NoLayers, "error: no layers\n")?;

@@ -1,3 +1,4 @@
 pub mod Corners
 pub mod Extents
 pub mod Outsides
+pub mod Shifts

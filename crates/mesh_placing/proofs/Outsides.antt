@@ -13,6 +13,7 @@ use Rattle.slice_base.specs.Boxes.{IsIn, TriIn, TriOver, TriUnder, from_above}
 use Rattle.settings_core.specs.declared.resolved.Settings.{Settings}
 use Rattle.settings_core.specs.declared.resolved.MeshSettings.{MeshSettings}
 use Rattle.settings_core.specs.Valid.{IsPrintInRange}
+use Rattle.mesh_placing.specs.declared.placing.Excess.{Excess}
 use Rattle.mesh_placing.specs.declared.placing.OutsideVolume.{OutsideVolume}
 use Rattle.mesh_placing.specs.declared.placing.Shift.{Shift}
 use Rattle.mesh_placing.specs.Places.{shift_of, moved, moved_corner, placed, placed_with}
@@ -133,19 +134,30 @@ outside-is s n m ts by found is = ap (first_outside s) (placed-is s n m ts by fo
 
 abbrev told : Result (Unit {0}) OutsideVolume → ℕ
 told (Ok done) = 0
-told (Err e) = e.triangle
+told (Err o) = o.triangle
 
-abbrev pub refused : ℕ → Result (Unit {0}) OutsideVolume
-refused n = Err (record { triangle = n })
+abbrev told_excess : Excess → Result (Unit {0}) OutsideVolume → Excess
+told_excess d (Ok done) = d
+told_excess d (Err o) = o.excess
 
-same_told : (t n : ℕ) → refused t ≡ refused n → t ≡ n
-same_told t n h = ap told h
+abbrev pub refused : ℕ → Excess → Result (Unit {0}) OutsideVolume
+refused n e = Err (record { triangle = n; excess = e })
 
-pub outside-some : (o : Option ℕ) (t : ℕ) → o ≡ Some t → (n : ℕ) → (refused t ≡ refused n) ↔ (o ≡ Some n)
-outside-some o t is n = (λ h. is ∙ ap Some (same_told t n h), λ h. ap refused (some_same (sym is ∙ h)))
+-- what is told of triangles outside, by the first of them and by how far they reach out
+pub outside-some : (o : Option ℕ) (t : ℕ) (x y : Excess) → o ≡ Some t → x ≡ y → (n : ℕ) (e : Excess) → (refused t x ≡ refused n e) ↔ ((o ≡ Some n) × (e ≡ y))
+outside-some o t x y is at n e = (λ h. (is ∙ ap Some (same_number h), sym (same_excess h) ∙ at), λ h. both (some_same (sym is ∙ h.0)) (at ∙ sym h.1))
   where
+    same_number : refused t x ≡ refused n e → t ≡ n
+    same_number h = ap told h
+
+    same_excess : refused t x ≡ refused n e → x ≡ e
+    same_excess h = ap (told_excess x) h
+
     some_same : Some t ≡ Some n → t ≡ n
     some_same h = cc
 
-pub outside-none : (o : Option ℕ) → o ≡ None → (n : ℕ) → (◌≡◌ {A = Result (Unit {0}) OutsideVolume} (Ok tt) (refused n)) ↔ (o ≡ Some n)
-outside-none o is n = (λ h. cc, λ h. absurd (none-some n (sym is ∙ h)))
+    both : t ≡ n → x ≡ e → refused t x ≡ refused n e
+    both h g = rw (h, g) refl
+
+pub outside-none : (o : Option ℕ) (y : Excess) → o ≡ None → (n : ℕ) (e : Excess) → (◌≡◌ {A = Result (Unit {0}) OutsideVolume} (Ok tt) (refused n e)) ↔ ((o ≡ Some n) × (e ≡ y))
+outside-none o y is n e = (λ h. cc, λ h. absurd (none-some n (sym is ∙ h.0)))

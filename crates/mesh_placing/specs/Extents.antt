@@ -25,7 +25,10 @@ stretched e p = record { low = lower e.low p; high = upper e.high p }
 
 -- the least and the greatest coordinates of all corners; 0 where there is none
 abbrev pub extent_of : List Tri → Extent
-extent_of [] = record { low = record { x = pos 0; y = pos 0; z = pos 0 }; high = record { x = pos 0; y = pos 0; z = pos 0 } }
+extent_of [] = record {
+  low = record { x = pos 0; y = pos 0; z = pos 0 };
+  high = record { x = pos 0; y = pos 0; z = pos 0 };
+}
 extent_of (t ∷ ts) = fold stretched (record { low = t.a; high = t.a }) (corners_of (t ∷ ts))
 
 -- z is the least of some numbers: under all, and one of them

@@ -1,22 +1,50 @@
 // Putting a mesh into its place in the volume of the machine.
 
-ghost use Rattle.std.specs.Prelude.{◌≡◌, ◌<◌, ◌≤◌, ◌^◌, ◌↔◌, ◌+ℤ◌, ◌≤ℤ◌, ℕ, pos, length, map, OnOk, OnErr};
+ghost use Rattle.std.specs.Prelude.{◌≡◌, ◌<◌, ◌≤◌, ◌^◌, ◌↔◌, ◌+ℤ◌, ◌-ℤ◌, ◌≤ℤ◌, ℕ, pos, length, map, OnOk, OnErr};
 ghost use Rattle.std.specs.Int.RustNames.{unsigned_abs};
 ghost use Rattle.std.specs.List.{All, position, slice_get};
 ghost use Rattle.slice_base.specs.Boxes.{TriIn, TriOver, TriUnder};
 ghost use Rattle.mesh_placing.specs.Extents.{extent_of, lower, stretched, upper};
-ghost use Rattle.mesh_placing.specs.Inner.Moves.{AreMovedInside, IsMovedInside, IsShorter};
+ghost use Rattle.mesh_placing.specs.Inner.Moves.{AreMovedInside, IsMovedInside, IsShorter, shifted};
 ghost use Rattle.mesh_placing.specs.Places.{centred, centring, middle_of, moved, moved_corner, placed, shift_of, to_middle};
-ghost use Rattle.mesh_placing.specs.Volume.{bed_of, first_outside, is_inside, is_within, leaves};
+ghost use Rattle.mesh_placing.specs.Volume.{bed_of, excess_of, excess_on, first_outside, further, is_inside, is_within, leaves, reach};
 
 use settings_core::{MeshSettings, Settings};
 use slice_base::{Pt3, Tri};
+
+/// A side of the volume, as seen from the front.
+#[derive(Clone, Copy, PartialEq, Eq, Debug)]
+pub enum Side {
+    /// Where x is 0.
+    Left,
+    /// Where x is the machine's width.
+    Right,
+    /// Where y is 0.
+    Front,
+    /// Where y is the machine's depth.
+    Back,
+    /// Where z is 0: the bed.
+    Below,
+    /// Where z is the machine's height.
+    Above,
+}
+
+/// How far a mesh reaches out of the volume.
+#[derive(Clone, Copy, PartialEq, Eq, Debug)]
+pub struct Excess {
+    /// The side on which it reaches out.
+    pub side: Side,
+    /// How far, in µm.
+    pub by: i64,
+}
 
 /// A mesh that doesn't lie in the volume.
 #[derive(Clone, Copy, PartialEq, Eq, Debug)]
 pub struct OutsideVolume {
     /// The first triangle with a corner outside the volume, counted from 0.
     pub triangle: u32,
+    /// Where the mesh reaches out furthest.
+    pub excess: Excess,
 }
 
 // The least and the greatest coordinates of corners, in µm.
@@ -190,6 +218,69 @@ fn first_leaving(settings: &Settings, tris: &[Tri], by: Shift) -> Option<usize>
     tris.iter().position(|t| leaves(settings, *t, by))
 }
 
+// How far a coordinate, moved, lies under 0.
+fn under_start(from: i32, by: i64) -> i64
+    requires { unsigned_abs by < 2 ^ 33 }
+    ensures { result ≡ pos 0 -ℤ (from +ℤ by) }
+{
+    0 - moved_by(from, by)
+}
+
+// How far a coordinate, moved, lies over a size.
+fn over_end(size: u32, from: i32, by: i64) -> i64
+    requires { unsigned_abs by < 2 ^ 33 }
+    ensures { result ≡ (from +ℤ by) -ℤ pos size }
+{
+    moved_by(from, by) - i64::from(size)
+}
+
+fn further(p: Excess, q: Excess) -> Excess
+    ensures { result ≡ further p q }
+{
+    if q.by <= p.by { p } else { q }
+}
+
+// How far an extent, moved, reaches out on a side.
+fn reach(settings: &Settings, extent: Extent, by: Shift, side: Side) -> i64
+    requires { IsShorter by (2 ^ 33) }
+    ensures { result ≡ reach settings.now (shifted by extent) side }
+{
+    match side {
+        Side::Left => under_start(extent.low.x, by.x),
+        Side::Right => over_end(settings.machine_width, extent.high.x, by.x),
+        Side::Front => under_start(extent.low.y, by.y),
+        Side::Back => over_end(settings.machine_depth, extent.high.y, by.y),
+        Side::Below => under_start(extent.low.z, by.z),
+        Side::Above => over_end(settings.machine_height, extent.high.z, by.z),
+    }
+}
+
+fn excess_on(settings: &Settings, extent: Extent, by: Shift, side: Side) -> Excess
+    requires { IsShorter by (2 ^ 33) }
+    ensures { result ≡ excess_on settings.now (shifted by extent) side }
+{
+    Excess {
+        side,
+        by: reach(settings, extent, by, side),
+    }
+}
+
+// Where an extent, moved, reaches out furthest.
+fn excess_of(settings: &Settings, extent: Extent, by: Shift) -> Excess
+    requires { IsShorter by (2 ^ 33) }
+    ensures { result ≡ excess_of settings.now (shifted by extent) }
+{
+    let left = excess_on(settings, extent, by, Side::Left);
+    let right = excess_on(settings, extent, by, Side::Right);
+    let front = excess_on(settings, extent, by, Side::Front);
+    let back = excess_on(settings, extent, by, Side::Back);
+    let below = excess_on(settings, extent, by, Side::Below);
+    let above = excess_on(settings, extent, by, Side::Above);
+    let aside = further(left, right);
+    let level = further(further(aside, front), back);
+    further(further(level, below), above)
+}
+
 // A coordinate, moved, of a corner in the volume.
 fn moved_within(from: i32, by: i64) -> i32
     requires short { unsigned_abs by < 2 ^ 33 }
@@ -247,8 +338,9 @@ fn mesh_settings(settings: &Settings, mesh: u8) -> MeshSettings
 pub fn put_in_place(tris: &mut [Tri], settings: &Settings, mesh: u8) -> Result<(), OutsideVolume>
     requires known { mesh < length settings.now.meshes }
     requires counted { length tris.old < 2 ^ 32 }
-    ensures outside { (n : ℕ) → (result ≡ Err (record { triangle = n }))
-        ↔ (first_outside settings.now (placed settings.now mesh tris.old) ≡ Some n) }
+    ensures outside { let ts = placed settings.now mesh tris.old in (n : ℕ) (e : Excess)
+        → (result ≡ Err (record { triangle = n; excess = e }))
+        ↔ ((first_outside settings.now ts ≡ Some n) × (e ≡ excess_of settings.now (extent_of ts))) }
     ensures moved { OnOk result (tris.new ≡ placed settings.now mesh tris.old) }
     ensures inside { OnOk result (first_outside settings.now (placed settings.now mesh tris.old) ≡ None) }
 
@@ -265,6 +357,7 @@ pub fn put_in_place(tris: &mut [Tri], settings: &Settings, mesh: u8) -> Result<(
     match first_leaving(settings, tris, by) {
         Some(triangle) => Err(OutsideVolume {
             triangle: triangle as u32,
+            excess: excess_of(settings, extent_of(tris), by),
         }),
         None => {
             move_all(tris, by);

@@ -46,7 +46,13 @@ fn a_mesh_reaches_the_edge_of_the_volume_and_no_further(rt: HostRuntime) -> Resu
     let mut leaving = row_to(200001);
     assert_eq!(rt;
         put_in_place(&mut leaving, &settings, 0),
-        Err(OutsideVolume { triangle: 1 })
+        Err(OutsideVolume {
+            triangle: 1,
+            excess: Excess {
+                side: Side::Right,
+                by: 1,
+            },
+        })
     );
     assert_eq!(rt; leaving.as_slice(), row_to(200001).as_slice());
     Ok(())
@@ -60,7 +66,13 @@ fn a_mesh_below_the_bed_is_refused(rt: HostRuntime) -> Result<(), Fail> {
     let mut mesh = row_to(20);
     assert_eq!(rt;
         put_in_place(&mut mesh, &settings, 0),
-        Err(OutsideVolume { triangle: 0 })
+        Err(OutsideVolume {
+            triangle: 0,
+            excess: Excess {
+                side: Side::Below,
+                by: 1,
+            },
+        })
     );
     Ok(())
 }

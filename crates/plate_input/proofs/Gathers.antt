@@ -9,7 +9,7 @@ use Rattle.std.proofs.lemmas.List.Elements.{All-push, All-nil, All-cons, All-hea
 use Rattle.slice_base.specs.Causes.{counted, counted_by}
 use Rattle.settings_core.specs.declared.pairs.Pair.{Pair}
 use Rattle.settings_core.specs.File.{file_pairs}
-use Rattle.outside.specs.Files.{IsFile, IsTooLong}
+use Rattle.outside.specs.Files.{Files, IsFile, IsTooLong}
 use Rattle.outside.specs.Store.{Store}
 use Rattle.cli_words.specs.declared.command.Item.{Item}
 use Rattle.cli_words.specs.declared.command.Item.TheVariants as item
@@ -124,7 +124,7 @@ kept_mesh items rest contents g name bytes e short k = record {
 }
 
 -- one more file was read
-are_more : (files : Option (List (List ℕ × List ℕ))) (names contents : Names) (name bytes : List ℕ) → AreFiles files names contents → IsFile files name bytes → length bytes ≤ MOST_BYTES → AreFiles files (names ++ name ∷ []) (contents ++ bytes ∷ [])
+are_more : (files : Option Files) (names contents : Names) (name bytes : List ℕ) → AreFiles files names contents → IsFile files name bytes → length bytes ≤ MOST_BYTES → AreFiles files (names ++ name ∷ []) (contents ++ bytes ∷ [])
 are_more files [] [] name bytes a f s = (f, s, tt)
 are_more files [] (c ∷ cs) name bytes a f s = absurd a
 are_more files (n ∷ ns) [] name bytes a f s = absurd a

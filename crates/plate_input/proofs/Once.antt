@@ -14,8 +14,10 @@ use Rattle.stl_text.specs.declared.faults.StlFault.{StlFault}
 use Rattle.stl_text.specs.declared.faults.StlFault.TheVariants as stl
 use Rattle.stl_text.specs.Mesh.{StlGives}
 use Rattle.mesh_placing.specs.Places.{placed, placed_with}
-use Rattle.mesh_placing.specs.Volume.{first_outside}
-use Rattle.outside.specs.Files.{IsFile, IsTooLong, file_of}
+use Rattle.mesh_placing.specs.declared.placing.Excess.{Excess}
+use Rattle.mesh_placing.specs.Extents.{extent_of}
+use Rattle.mesh_placing.specs.Volume.{excess_of, first_outside}
+use Rattle.outside.specs.Files.{Files, IsFile, IsTooLong, file_of}
 use Rattle.cli_words.specs.declared.command.Item.{Item}
 use Rattle.cli_words.specs.Command.{item_names, item_extruders}
 use Rattle.plate_input.specs.declared.faults.PlateFault.{PlateFault}
@@ -29,9 +31,6 @@ use Rattle.plate_input.specs.Plate.{IsPlate, HasBadMesh, MakesPlate, GivesSettle
 
 abbrev Names : Type 0
 Names = List (List ℕ)
-
-abbrev Files : Type 0
-Files = List (List ℕ × List ℕ)
 
 abbrev Plates : Type 0
 Plates = Result Plate PlateFault
@@ -102,14 +101,14 @@ some_outside s m [] n e = absurd (nothing_placed s (slice_get s.meshes m) n e)
 some_outside s m (t ∷ ts) n e = omega arith
 
 -- what a mesh's triangles in place give, by the first that is outside
-abbrev placed_or : ℕ → Option ℕ → List Tri → Tris
-placed_or m None ts = Ok ts
-placed_or m (Some n) ts = Err (fault.OutsideVolume m n)
+abbrev placed_or : Settings → ℕ → Option ℕ → List Tri → Tris
+placed_or s m None ts = Ok ts
+placed_or s m (Some n) ts = Err (fault.OutsideVolume m n (excess_of s (extent_of ts)))
 
 -- what the reading of a mesh's file gives
 abbrev answer_of : Settings → ℕ → Reading → Tris
 answer_of s m (Ok []) = Err (fault.NoTriangles m)
-answer_of s m (Ok (t ∷ ts)) = placed_or m (first_outside s (placed s m (t ∷ ts))) (placed s m (t ∷ ts))
+answer_of s m (Ok (t ∷ ts)) = placed_or s m (first_outside s (placed s m (t ∷ ts))) (placed s m (t ∷ ts))
 answer_of s m (Err (stl.BadLine n)) = Err (fault.BadStl m n)
 answer_of s m (Err (stl.TooManyTriangles n)) = Err (fault.TooManyTriangles m n)
 answer_of s m (Err stl.NoMemory) = Err fault.NoMemory
@@ -120,17 +119,20 @@ pub record IsOf (s : Settings) (m : ℕ) (bytes : List ℕ) (a : Tris) : Type 0 
   gives : StlGives bytes reading
   is : a ≡ answer_of s m reading
 
-placed_by : (s : Settings) (m : ℕ) (ts : List Tri) (o : Option ℕ) → 0 < length ts → first_outside s (placed s m ts) ≡ o → placed_or m o (placed s m ts) ≡ answer_of s m (Ok ts)
+placed_by : (s : Settings) (m : ℕ) (ts : List Tri) (o : Option ℕ) → 0 < length ts → first_outside s (placed s m ts) ≡ o → placed_or s m o (placed s m ts) ≡ answer_of s m (Ok ts)
 placed_by s m [] o some e = absurd (omega arith)
-placed_by s m (t ∷ ts) o some e = ap (λ x. placed_or m x (placed s m (t ∷ ts))) (sym e)
+placed_by s m (t ∷ ts) o some e = ap (λ x. placed_or s m x (placed s m (t ∷ ts))) (sym e)
+
+outside_same : (i m n : ℕ) (e f : Excess) → i ≡ m → e ≡ f → ◌≡◌ {A = Tris} (Err (fault.OutsideVolume i n e)) (Err (fault.OutsideVolume m n f))
+outside_same i m n e f h g = rw (h, g) refl
 
 is_of : (s : Settings) (m : ℕ) (bytes : List ℕ) (a : Tris) → MeshGives s m bytes a → IsOf s m bytes a
 is_of s m bytes (Ok ts) h = record { reading = Ok h.read; gives = h.mesh; is = ap Ok h.in_place ∙ placed_by s m h.read None h.some h.inside }
 is_of s m bytes (Err (fault.BadStl i n)) h = record { reading = Err (stl.BadLine n); gives = h.1; is = ap (λ k. Err (fault.BadStl k n)) h.0 }
 is_of s m bytes (Err (fault.TooManyTriangles i n)) h = record { reading = Err (stl.TooManyTriangles n); gives = h.1; is = ap (λ k. Err (fault.TooManyTriangles k n)) h.0 }
 is_of s m bytes (Err (fault.NoTriangles i)) h = record { reading = Ok []; gives = h.1; is = ap (λ k. Err (fault.NoTriangles k)) h.0 }
-is_of s m bytes (Err (fault.OutsideVolume i n)) h =
-    record { reading = Ok h.1.read; gives = h.1.mesh; is = ap (λ k. Err (fault.OutsideVolume k n)) h.0 ∙ placed_by s m h.1.read (Some n) (some_outside s m h.1.read n h.1.outside) h.1.outside }
+is_of s m bytes (Err (fault.OutsideVolume i n e)) h =
+    record { reading = Ok h.1.read; gives = h.1.mesh; is = outside_same i m n e (excess_of s (extent_of (placed s m h.1.read))) h.0 h.1.furthest ∙ placed_by s m h.1.read (Some n) (some_outside s m h.1.read n h.1.outside) h.1.outside }
 is_of s m bytes (Err r) h = absurd h
 
 -- what a fault of pairs makes of an answer
@@ -169,7 +171,7 @@ settled pairs es files (Err (fault.UnknownExtruder m)) h = setting (pair_fault.U
 settled pairs es files (Err (fault.BadStl m n)) h = mesh (fault.BadStl m n) refl h
 settled pairs es files (Err (fault.NoTriangles m)) h = mesh (fault.NoTriangles m) refl h
 settled pairs es files (Err (fault.TooManyTriangles m n)) h = mesh (fault.TooManyTriangles m n) refl h
-settled pairs es files (Err (fault.OutsideVolume m n)) h = mesh (fault.OutsideVolume m n) refl h
+settled pairs es files (Err (fault.OutsideVolume m n e)) h = mesh (fault.OutsideVolume m n e) refl h
 settled pairs es files (Err r) h = absurd h
 
 none_some : (o : Option SettingFault) (f : SettingFault) → o ≡ None → o ≡ Some f → ⊥

@@ -4,7 +4,9 @@ use Rattle.std.proofs.Math.Seq.{take-append_seam}
 use Rattle.slice_base.specs.declared.points.Tri.{Tri}
 use Rattle.settings_core.specs.declared.resolved.Settings.{Settings}
 use Rattle.mesh_placing.specs.Places.{placed}
-use Rattle.mesh_placing.specs.Volume.{first_outside}
+use Rattle.mesh_placing.specs.declared.placing.Excess.{Excess}
+use Rattle.mesh_placing.specs.Extents.{extent_of}
+use Rattle.mesh_placing.specs.Volume.{excess_of, first_outside}
 use Rattle.plate_input.specs.declared.faults.PlateFault.{PlateFault}
 use Rattle.plate_input.specs.declared.faults.PlateFault.TheVariants as fault
 use Rattle.plate_input.specs.Inner.Stages.{ReadRefusal, TrianglesGive, MeshGives}
@@ -21,9 +23,9 @@ pub mesh_unread : (s : Settings) (m : ℕ) (bytes : List ℕ) (q : PlateFault) �
 mesh_unread s m bytes q (inl e) = inl e
 mesh_unread s m bytes q (inr h) = inr (refused_mesh s m bytes q h)
 
-pub mesh_outside : (s : Settings) (m n : ℕ) (bytes : List ℕ) (ts : List Tri) → UnlessNoMemory (TrianglesGive m bytes) (Ok ts) → first_outside s (placed s m ts) ≡ Some n → UnlessNoMemory (MeshGives s m bytes) (Err (fault.OutsideVolume m n))
-mesh_outside s m n bytes ts (inl e) out = absurd (cc)
-mesh_outside s m n bytes ts (inr h) out = inr (refl, record { read = ts; mesh = h.0; outside = out })
+pub mesh_outside : (s : Settings) (m n : ℕ) (x : Excess) (bytes : List ℕ) (ts : List Tri) → UnlessNoMemory (TrianglesGive m bytes) (Ok ts) → first_outside s (placed s m ts) ≡ Some n → x ≡ excess_of s (extent_of (placed s m ts)) → UnlessNoMemory (MeshGives s m bytes) (Err (fault.OutsideVolume m n x))
+mesh_outside s m n x bytes ts (inl e) out far = absurd (cc)
+mesh_outside s m n x bytes ts (inr h) out far = inr (refl, record { read = ts; mesh = h.0; outside = out; furthest = far })
 
 pub mesh_placed : (s : Settings) (m : ℕ) (bytes : List ℕ) (ts us : List Tri) → UnlessNoMemory (TrianglesGive m bytes) (Ok ts) → first_outside s (placed s m ts) ≡ None → us ≡ placed s m ts → UnlessNoMemory (MeshGives s m bytes) (Ok us)
 mesh_placed s m bytes ts us (inl e) none is = absurd (cc)

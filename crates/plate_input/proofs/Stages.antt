@@ -29,14 +29,14 @@ abbrev pub IsOfMesh : PlateFault → Type 0
 IsOfMesh (fault.BadStl m n) = Unit {0}
 IsOfMesh (fault.NoTriangles m) = Unit {0}
 IsOfMesh (fault.TooManyTriangles m n) = Unit {0}
-IsOfMesh (fault.OutsideVolume m n) = Unit {0}
+IsOfMesh (fault.OutsideVolume m n e) = Unit {0}
 IsOfMesh r = ⊥
 
 of_mesh : (s : Settings) (m : ℕ) (bytes : List ℕ) (r : PlateFault) → MeshRefusal s m bytes r → IsOfMesh r
 of_mesh s m bytes (fault.BadStl i n) h = tt
 of_mesh s m bytes (fault.NoTriangles i) h = tt
 of_mesh s m bytes (fault.TooManyTriangles i n) h = tt
-of_mesh s m bytes (fault.OutsideVolume i n) h = tt
+of_mesh s m bytes (fault.OutsideVolume i n e) h = tt
 of_mesh s m bytes r h = absurd h
 
 of_meshes : (s : Settings) (m : ℕ) (files : List (List ℕ)) (r : PlateFault) → MeshesGive s m files (Err r) → IsOfMesh r
@@ -48,7 +48,7 @@ bad_mesh : (pairs : List Pair) (es : List ℕ) (files : List (List ℕ)) (r : Pl
 bad_mesh pairs es files (fault.BadStl m n) k h = h
 bad_mesh pairs es files (fault.NoTriangles m) k h = h
 bad_mesh pairs es files (fault.TooManyTriangles m n) k h = h
-bad_mesh pairs es files (fault.OutsideVolume m n) k h = h
+bad_mesh pairs es files (fault.OutsideVolume m n e) k h = h
 bad_mesh pairs es files r k h = absurd k
 
 short_too : (q : PlateFault) → ◌≡◌ {A = Rows} (Err q) (Err fault.NoMemory) → ◌≡◌ {A = Plates} (Err q) (Err fault.NoMemory)

@@ -3,6 +3,7 @@ use Rattle.std.proofs.Common.{ℕ, ◌≡◌, ◌<◌, ◌≤◌, List, length, 
 use Rattle.std.specs.List.{All}
 use Rattle.std.proofs.lemmas.List.Elements.{All-same}
 use Rattle.settings_core.specs.declared.pairs.Pair.{Pair}
+use Rattle.outside.specs.Files.{Files}
 use Rattle.outside.specs.Store.{Store}
 use Rattle.cli_words.specs.declared.command.Item.{Item}
 use Rattle.cli_words.specs.declared.command.Task.{Task}
@@ -20,9 +21,6 @@ use Rattle.plate_input.specs.Reads.{SaysPlate, ReadsAll, ReadsFiles, IsUnlessFai
 abbrev Names : Type 0
 Names = List (List ℕ)
 
-abbrev Files : Type 0
-Files = List (List ℕ × List ℕ)
-
 abbrev Plates : Type 0
 Plates = Result Plate PlateFault
 
@@ -35,7 +33,7 @@ settled_says ps es ms items before after (Err (fault.UnknownExtruder m)) s d = d
 settled_says ps es ms items before after (Err (fault.BadStl m n)) s d = d
 settled_says ps es ms items before after (Err (fault.NoTriangles m)) s d = d
 settled_says ps es ms items before after (Err (fault.TooManyTriangles m n)) s d = d
-settled_says ps es ms items before after (Err (fault.OutsideVolume m n)) s d = d
+settled_says ps es ms items before after (Err (fault.OutsideVolume m n e)) s d = d
 settled_says ps es ms items before after (Err r) s d = absurd s
 
 kept_says : (items : List Item) (before after : Store) (ps : List Pair) (o : Option (List ℕ)) (contents : Names) (es : List ℕ) (ms : Names) (a : Plates) → AreFiles before.files (item_names items) contents → pairs_of items contents ≡ outcome ps o → es ≡ item_extruders items → ms ≡ mesh_bytes items contents → KeptGives ps o es ms a → SaysPlate a items before after

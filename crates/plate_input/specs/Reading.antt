@@ -3,20 +3,21 @@ use Rattle.std.specs.Prelude.{ℕ, ◌≡◌, ◌≤◌, List, [], ◌∷◌, �
 use Rattle.slice_base.specs.Limits.{max_file_bytes}
 use Rattle.settings_core.specs.declared.pairs.Pair.{Pair}
 use Rattle.settings_core.specs.File.{file_pairs}
-use Rattle.outside.specs.Files.{IsFile, IsTooLong}
+use Rattle.outside.specs.Files.{Files, IsFile, IsTooLong}
 use Rattle.cli_words.specs.declared.command.Item.{Item}
 use Rattle.cli_words.specs.declared.command.Item.TheVariants as item
 use Rattle.cli_words.specs.Command.{item_names}
 
 -- these are the contents of the files of these names, in order, and none is too long
-abbrev pub AreFiles : Option (List (List ℕ × List ℕ)) → List (List ℕ) → List (List ℕ) → Type 0
+abbrev pub AreFiles : Option Files → List (List ℕ) → List (List ℕ) → Type 0
 AreFiles files [] [] = Unit {0}
 AreFiles files [] (bytes ∷ contents) = ⊥
 AreFiles files (name ∷ names) [] = ⊥
-AreFiles files (name ∷ names) (bytes ∷ contents) = IsFile files name bytes × (length bytes ≤ max_file_bytes) × AreFiles files names contents
+AreFiles files (name ∷ names) (bytes ∷ contents) =
+    IsFile files name bytes × (length bytes ≤ max_file_bytes) × AreFiles files names contents
 
 -- the first file at fault, of those that the items name, is too long
-pub record FirstTooLong (items : List Item) (files : Option (List (List ℕ × List ℕ))) (name : List ℕ) : Type 0 where
+pub record FirstTooLong (items : List Item) (files : Option Files) (name : List ℕ) : Type 0 where
   pub front : List (List ℕ)
   pub rest : List (List ℕ)
   pub contents : List (List ℕ)
@@ -54,14 +55,14 @@ mesh_bytes (item.Mesh name e ∷ is) [] = mesh_bytes is []
 mesh_bytes (item.Mesh name e ∷ is) (bytes ∷ contents) = bytes ∷ mesh_bytes is contents
 
 -- all files are there, and all settings files are such
-pub record HasPairs (items : List Item) (files : Option (List (List ℕ × List ℕ))) : Type 0 where
+pub record HasPairs (items : List Item) (files : Option Files) : Type 0 where
   pub contents : List (List ℕ)
   pub are : AreFiles files (item_names items) contents
   pub pairs : List Pair
   pub given : pairs_of items contents ≡ Ok pairs
 
 -- all files are there, and that settings file is the first that isn't one
-pub record FirstNotJson (items : List Item) (files : Option (List (List ℕ × List ℕ))) (name : List ℕ) : Type 0 where
+pub record FirstNotJson (items : List Item) (files : Option Files) (name : List ℕ) : Type 0 where
   pub contents : List (List ℕ)
   pub are : AreFiles files (item_names items) contents
   pub not_json : pairs_of items contents ≡ Err name

@@ -15,5 +15,5 @@ refusal_of (fault.UnknownExtruder mesh) = refusal.UnknownExtruder mesh
 refusal_of (fault.BadStl mesh line) = refusal.BadStl mesh line
 refusal_of (fault.TooManyTriangles mesh n) = refusal.TooManyTriangles mesh n
 refusal_of (fault.NoTriangles mesh) = refusal.NoTriangles mesh
-refusal_of (fault.OutsideVolume mesh triangle) = refusal.OutsideVolume mesh triangle
+refusal_of (fault.OutsideVolume mesh triangle excess) = refusal.OutsideVolume mesh triangle excess
 refusal_of fault.NoMemory = refusal.NoMemory

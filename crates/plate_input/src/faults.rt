@@ -3,6 +3,7 @@
 ghost use Rattle.std.specs.Prelude.{◌≡◌};
 
 use answers::Refusal;
+use mesh_placing::Excess;
 use settings_core::Scope;
 use slice_base::{NoMemory, Text};
 
@@ -12,25 +13,51 @@ use slice_base::{NoMemory, Text};
 #[derive(Drop)]
 pub enum PlateFault {
     /// Reading that file failed.
-    ReadFault { name: Text },
+    ReadFault {
+        name: Text,
+    },
     /// That file has over 268,435,456 bytes.
-    TooLong { name: Text },
+    TooLong {
+        name: Text,
+    },
     /// That file isn't a settings file.
-    NotJson { name: Text },
+    NotJson {
+        name: Text,
+    },
     /// The first pair at fault has no value of its setting.
-    BadValue { scope: Scope, key: Text },
+    BadValue {
+        scope: Scope,
+        key: Text,
+    },
     /// The first pair at fault has a value outside its setting's range.
-    OutOfRange { scope: Scope, key: Text },
+    OutOfRange {
+        scope: Scope,
+        key: Text,
+    },
     /// That mesh is the first whose extruder the printer doesn't have.
-    UnknownExtruder { mesh: u8 },
+    UnknownExtruder {
+        mesh: u8,
+    },
     /// That line of the mesh's file is the first at fault.
-    BadStl { mesh: u8, line: u32 },
+    BadStl {
+        mesh: u8,
+        line: u32,
+    },
     /// The mesh has that many facets, over 1,000,000.
-    TooManyTriangles { mesh: u8, count: u32 },
+    TooManyTriangles {
+        mesh: u8,
+        count: u32,
+    },
     /// The mesh has no triangle.
-    NoTriangles { mesh: u8 },
-    /// That triangle is the first with a corner outside the build volume.
-    OutsideVolume { mesh: u8, triangle: u32 },
+    NoTriangles {
+        mesh: u8,
+    },
+    /// That triangle is the first with a corner outside the build volume, and so far the mesh reaches out.
+    OutsideVolume {
+        mesh: u8,
+        triangle: u32,
+        excess: Excess,
+    },
     /// There was no memory.
     NoMemory,
 }
@@ -63,9 +90,15 @@ impl From<PlateFault> for Refusal {
                 Refusal::TooManyTriangles { mesh, count }
             }
             PlateFault::NoTriangles { mesh } => Refusal::NoTriangles { mesh },
-            PlateFault::OutsideVolume { mesh, triangle } => {
-                Refusal::OutsideVolume { mesh, triangle }
-            }
+            PlateFault::OutsideVolume {
+                mesh,
+                triangle,
+                excess,
+            } => Refusal::OutsideVolume {
+                mesh,
+                triangle,
+                excess,
+            },
             PlateFault::NoMemory => Refusal::NoMemory,
         }
     }

@@ -58,6 +58,7 @@ fn place_mesh(
         Err(outside) => Err(PlateFault::OutsideVolume {
             mesh,
             triangle: outside.triangle,
+            excess: outside.excess,
         }),
         Ok(()) => Ok(mesh_of(alloc, tris.as_slice())?),
     }

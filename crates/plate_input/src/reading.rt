@@ -3,6 +3,7 @@
 ghost use Rattle.std.specs.Prelude.{◌≡◌, ◌<◌, ℕ, List, length, Some, Result, IfOk};
 ghost use Rattle.std.specs.List.{All};
 ghost use Rattle.std.specs.Str.{IsUtf8};
+ghost use Rattle.outside.specs.Files.{Files};
 ghost use Rattle.cli_words.specs.Command.{IsTask, item_names};
 ghost use Rattle.plate_input.specs.declared.faults.PlateFault.{PlateFault};
 ghost use Rattle.plate_input.specs.declared.plates.Plate.{Plate};
@@ -34,7 +35,7 @@ pub fn read_plate<Sh: Shelf>(
     ensures says { SaysPlate result task.now.items (Sh.store shelf.old) (Sh.store shelf.new) }
 
     // What told files define is the answer, unless a read failed or memory ran out.
-    ensures one { (files : List (List ℕ × List ℕ)) (a : Result Plate PlateFault)
+    ensures one { (files : Files) (a : Result Plate PlateFault)
         → (Sh.store shelf.old).files ≡ Some files
         → PlateGives task.now.items (Some files) a → IsUnlessFailed a result }
 

@@ -3,7 +3,9 @@ use Rattle.std.specs.Prelude.{ℕ, pos, ◌<◌, ◌+ℤ◌, ◌≤ℤ◌}
 use Rattle.std.specs.Int.RustNames.{unsigned_abs}
 use Rattle.slice_base.specs.declared.points.Pt3.{Pt3}
 use Rattle.slice_base.specs.declared.points.Tri.{Tri}
+use Rattle.mesh_placing.specs.declared.placing.Extent.{Extent}
 use Rattle.mesh_placing.specs.declared.placing.Shift.{Shift}
+use Rattle.mesh_placing.specs.Places.{moved_corner}
 
 -- the shift is shorter than n in each direction
 pub record IsShorter (by : Shift) (n : ℕ) : Type 0 where
@@ -25,3 +27,7 @@ pub record AreMovedInside (by : Shift) (t : Tri) : Type 0 where
   pub a : IsMovedInside by t.a
   pub b : IsMovedInside by t.b
   pub c : IsMovedInside by t.c
+
+-- an extent, moved
+abbrev pub shifted : Shift → Extent → Extent
+shifted by e = record { low = moved_corner by e.low; high = moved_corner by e.high }

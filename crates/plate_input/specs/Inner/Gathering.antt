@@ -5,7 +5,7 @@ use Rattle.slice_base.specs.Causes.{counted}
 use Rattle.slice_base.specs.Limits.{max_file_bytes}
 use Rattle.settings_core.specs.declared.pairs.Pair.{Pair}
 use Rattle.settings_core.specs.File.{file_pairs}
-use Rattle.outside.specs.Files.{IsFile, IsTooLong}
+use Rattle.outside.specs.Files.{Files, IsFile, IsTooLong}
 use Rattle.outside.specs.Store.{Store}
 use Rattle.cli_words.specs.declared.command.Item.{Item}
 use Rattle.cli_words.specs.declared.command.Item.TheVariants as item
@@ -55,11 +55,21 @@ with_pairs ps g = record { pairs = g.pairs ++ ps; not_json = g.not_json; extrude
 -- with a settings file of this name, by its pairs where it is one
 abbrev pub with_settings : List ℕ → Option (List Pair) → Gathered → Gathered
 with_settings name (Some ps) g = with_pairs ps g
-with_settings name None g = record { pairs = g.pairs; not_json = first_name g.not_json name; extruders = g.extruders; meshes = g.meshes }
+with_settings name None g = record {
+  pairs = g.pairs;
+  not_json = first_name g.not_json name;
+  extruders = g.extruders;
+  meshes = g.meshes;
+}
 
 -- with a mesh of this extruder, by the bytes of its file
 abbrev pub with_mesh : ℕ → List ℕ → Gathered → Gathered
-with_mesh e bytes g = record { pairs = g.pairs; not_json = g.not_json; extruders = g.extruders ++ e ∷ []; meshes = g.meshes ++ bytes ∷ [] }
+with_mesh e bytes g = record {
+  pairs = g.pairs;
+  not_json = g.not_json;
+  extruders = g.extruders ++ e ∷ [];
+  meshes = g.meshes ++ bytes ∷ [];
+}
 
 -- what is kept once an item is taken, with the bytes of its file where it has one
 abbrev pub taken : Item → List ℕ → Gathered → Gathered
@@ -91,7 +101,7 @@ outcome pairs None = Ok pairs
 outcome pairs (Some name) = Err name
 
 -- all files were read, and this was kept of them
-pub record HasGathered (items : List Item) (files : Option (List (List ℕ × List ℕ))) (g : Gathered) : Type 0 where
+pub record HasGathered (items : List Item) (files : Option Files) (g : Gathered) : Type 0 where
   pub contents : List (List ℕ)
   pub are : AreFiles files (item_names items) contents
   pub pairs : pairs_of items contents ≡ outcome g.pairs g.not_json
@@ -103,6 +113,7 @@ pub record HasGathered (items : List Item) (files : Option (List (List ℕ × Li
 -- why not all files were read
 abbrev pub GatherRefusal : PlateFault → List Item → Store → Store → Type 0
 GatherRefusal (fault.ReadFault name) items before after = FailedRead items name before after
-GatherRefusal (fault.TooLong name) items before after = EndsAt items name before after × IsTooLong before.files name max_file_bytes
+GatherRefusal (fault.TooLong name) items before after =
+    EndsAt items name before after × IsTooLong before.files name max_file_bytes
 GatherRefusal fault.NoMemory items before after = ReadsSome items before after
 GatherRefusal r items before after = ⊥

@@ -2,7 +2,8 @@ use Rattle.std.proofs.Common.{◌≡◌, Err, Some, None, List, length, arith, a
 use Rattle.std.proofs.lemmas.Result.{err_from_is_err_and}
 use Rattle.slice_base.specs.declared.points.Tri.{Tri}
 use Rattle.mesh_placing.specs.Places.{placed}
-use Rattle.mesh_placing.specs.Volume.{first_outside}
+use Rattle.mesh_placing.specs.Extents.{extent_of}
+use Rattle.mesh_placing.specs.Volume.{excess_of, first_outside}
 use Rattle.plate_input.specs.Inner.Stages.{LiesInside}
 use Rattle.plate_input.proofs.Placings.{mesh_unread, mesh_outside, mesh_placed, written}
 use Rattle.plate_input.proofs.meshes.place_mesh.Goals as goal
@@ -20,8 +21,11 @@ returns-in-Err-clause-gives c =
     let m = c.args.mesh in
     let n = c.in-Err.outside.triangle in
     let same : c.as_mut_slice.result.now ≡ c.in_ok-read_triangles.field-0 = c.as_mut_slice.ensures.value ∙ c.into_vec-tris.ensures in
-    let out : first_outside c.args.settings.now (placed c.args.settings.now c.args.mesh c.in_ok-read_triangles.field-0) ≡ Some c.in-Err.outside.triangle = subst (λ (ts : List Tri). first_outside s (placed s m ts) ≡ Some n) same ((c.in-Err.ensures.outside n).0 refl) in
-    mesh_outside s m n c.args.bytes.now c.in_ok-read_triangles.field-0 c.in_ok-read_triangles.ensures.gives out
+    let x = c.in-Err.outside.excess in
+    let told = (c.in-Err.ensures.outside n x).0 refl in
+    let out : first_outside c.args.settings.now (placed c.args.settings.now c.args.mesh c.in_ok-read_triangles.field-0) ≡ Some c.in-Err.outside.triangle = subst (λ (ts : List Tri). first_outside s (placed s m ts) ≡ Some n) same told.0 in
+    let far : c.in-Err.outside.excess ≡ excess_of c.args.settings.now (extent_of (placed c.args.settings.now c.args.mesh c.in_ok-read_triangles.field-0)) = subst (λ (ts : List Tri). x ≡ excess_of s (extent_of (placed s m ts))) same told.1 in
+    mesh_outside s m n x c.args.bytes.now c.in_ok-read_triangles.field-0 c.in_ok-read_triangles.ensures.gives out far
 
 pub returns-clause-gives : goal.returns-clause-gives
 returns-clause-gives c =
