@@ -16,7 +16,7 @@ use Rattle.edge_cut.specs.Faults.{IsCutFault}
 use Rattle.stitch_core.specs.declared.stitches.Stitched.{Stitched}
 use Rattle.clip_core.specs.declared.keeping.Operation.TheVariants.{NonZero}
 use Rattle.clip_core.specs.Clip.{clipped_of}
-use Rattle.area_stage.specs.Outlines.{stitched_of, cleaned_of, without_of, outline_of, dropped_of, dropped_on, open_outlines_of}
+use Rattle.area_stage.specs.Outlines.{stitched_of, cleaned_of, without_of, outline_of, open_at, open_on, open_outlines_of}
 use Rattle.area_stage.specs.Faults.{named}
 use Rattle.area_stage.specs.Meshes.{mesh_settings_of}
 use Rattle.area_stage.specs.Walls.{walls_at, mesh_walls_of, layer_walls_of}
@@ -54,11 +54,11 @@ cleaned-step z meshes i mesh done new own below at is pushed so_far =
     ∙ (each_ok-more (cleaned_of z) (take i meshes) mesh done own so_far is
     ∙ ap (λ (l : List (List (List Pt))). let r : Result (List (List (List Pt))) ℕ = Ok l in r) (sym pushed))
 
-pub dropped-step : (z : ℤ) (meshes : List (List Tri)) (i : ℕ) (mesh : List Tri) (done new own : ℕ) → i < length meshes → mesh ≡ get_or meshes i mesh → own ≡ dropped_of z mesh → new ≡ done + own
-    → done ≡ sum_by (dropped_of z) (take i meshes) → new ≡ sum_by (dropped_of z) (take (i + 1) meshes)
-dropped-step z meshes i mesh done new own below at is added so_far =
-    let t = ap (λ (l : List (List Tri)). sum_by (dropped_of z) l) (take-item meshes i mesh below at) in
-    let s = sum_by_push (dropped_of z) (take i meshes) mesh in
+pub open-step : (z : ℤ) (meshes : List (List Tri)) (i : ℕ) (mesh : List Tri) (done new own : ℕ) → i < length meshes → mesh ≡ get_or meshes i mesh → own ≡ open_at z mesh → new ≡ done + own
+    → done ≡ sum_by (open_at z) (take i meshes) → new ≡ sum_by (open_at z) (take (i + 1) meshes)
+open-step z meshes i mesh done new own below at is added so_far =
+    let t = ap (λ (l : List (List Tri)). sum_by (open_at z) l) (take-item meshes i mesh below at) in
+    let s = sum_by_push (open_at z) (take i meshes) mesh in
     omega (arith, t, s, is, added, so_far)
 
 -- ---- many layers
@@ -76,7 +76,7 @@ kept-is r (suc n) old new kept is o w =
     let e : kept ≡ old = is ∙ if-false (suc n == 0) new old (not-first n) in
     o (omega arith) ∙ ap (λ (l : List (List (List Pt))). let q : Result (List (List (List Pt))) ℕ = Ok l in q) (sym e)
 
-pub open-more : (s : SettingsValue) (meshes : List (List Tri)) (n a b : ℕ) → a ≡ open_outlines_of s meshes n → b ≡ dropped_on s meshes n → a + b ≡ open_outlines_of s meshes (n + 1)
+pub open-more : (s : SettingsValue) (meshes : List (List Tri)) (n a b : ℕ) → a ≡ open_outlines_of s meshes n → b ≡ open_on s meshes n → a + b ≡ open_outlines_of s meshes (n + 1)
 open-more s meshes n a b e f = rw (add-one n) (omega (arith, e, f))
 
 -- ---- all meshes on a layer
@@ -112,6 +112,6 @@ first-outlines s meshes layer z n done kept end ez first so_far is =
     sym (ap (λ (k : ℤ). each_ok (cleaned_of k) (take n meshes)) ez0 ∙ ap (λ (l : List (List Tri)). each_ok (cleaned_of (pos (plane_of s 0))) l) (all-taken meshes n end))
     ∙ (so_far ∙ ap (λ (l : List (List (List Pt))). let r : Result (List (List (List Pt))) ℕ = Ok l in r) (sym (first-kept layer kept done first is)))
 
-pub all-dropped : (s : SettingsValue) (meshes : List (List Tri)) (layer : ℕ) (z : ℤ) (n dropped : ℕ) → n ≡ length meshes → z ≡ pos (plane_of s layer) → dropped ≡ sum_by (dropped_of z) (take n meshes) → dropped ≡ dropped_on s meshes layer
-all-dropped s meshes layer z n dropped end ez so_far =
-    so_far ∙ (ap (λ (k : ℤ). sum_by (dropped_of k) (take n meshes)) ez ∙ ap (λ (l : List (List Tri)). sum_by (dropped_of (pos (plane_of s layer))) l) (all-taken meshes n end))
+pub all-open : (s : SettingsValue) (meshes : List (List Tri)) (layer : ℕ) (z : ℤ) (n open_outlines : ℕ) → n ≡ length meshes → z ≡ pos (plane_of s layer) → open_outlines ≡ sum_by (open_at z) (take n meshes) → open_outlines ≡ open_on s meshes layer
+all-open s meshes layer z n open_outlines end ez so_far =
+    so_far ∙ (ap (λ (k : ℤ). sum_by (open_at k) (take n meshes)) ez ∙ ap (λ (l : List (List Tri)). sum_by (open_at (pos (plane_of s layer))) l) (all-taken meshes n end))

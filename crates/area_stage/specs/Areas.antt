@@ -46,5 +46,6 @@ abbrev pub AreasGive : SettingsValue → List (List Tri) → Result JobValue Are
 AreasGive s meshes (Ok job) = LayersGive s meshes (Ok job)
 AreasGive s meshes (Err NoLayers) = IsLayerCount s (top_of_all meshes) 0
 AreasGive s meshes (Err (TooManyLayers n)) = IsLayerCount s (top_of_all meshes) n × (max_layers < n)
-AreasGive s meshes (Err (TooTangled mesh layer count)) = LayersGive s meshes (Err (record { mesh = mesh; layer = layer; count = count }))
+AreasGive s meshes (Err (TooTangled mesh layer count)) =
+    LayersGive s meshes (Err (record { mesh = mesh; layer = layer; count = count }))
 AreasGive s meshes (Err NoMemory) = ⊥

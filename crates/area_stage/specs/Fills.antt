@@ -26,7 +26,9 @@ all_inners_of walls count = map (inners_of walls) (range_with_len 0 count)
 -- skin and fill of mesh i on a layer
 abbrev pub mesh_split_of : SettingsValue → List (List Loops) → ℕ → ℕ → Result Split Tangle
 mesh_split_of s inners layer i =
-    named i layer (skin_of (slice_index_or inners i []) layer (mesh_settings_of s i).bottom_layers (mesh_settings_of s i).top_layers)
+    named i layer
+    (skin_of (slice_index_or inners i []) layer (mesh_settings_of s i).bottom_layers
+    (mesh_settings_of s i).top_layers)
 
 -- those of all meshes on a layer, mesh by mesh
 unfoldable pub layer_splits_of : SettingsValue → List (List Loops) → ℕ → Result (List Split) Tangle

@@ -25,17 +25,18 @@ without_of region others = fold_ok (clipped_of Subtract) region others
 
 -- the outline of a mesh: its cleaned outline without the cleaned outlines of the meshes before it
 unfoldable pub outline_of : ℤ → List (List Tri) → List Tri → Result Loops ℕ
-outline_of z before mesh = and_then (cleaned_of z mesh) (λ own. and_then (each_ok (cleaned_of z) before) (without_of own))
+outline_of z before mesh =
+    and_then (cleaned_of z mesh) (λ own. and_then (each_ok (cleaned_of z) before) (without_of own))
 
 -- how many chains of a mesh's section stay open at a height
-abbrev pub dropped_of : ℤ → List Tri → ℕ
-dropped_of z mesh = (stitched_of z mesh).dropped
+abbrev pub open_at : ℤ → List Tri → ℕ
+open_at z mesh = (stitched_of z mesh).open_outlines
 
 -- how many chains of all meshes stay open on a layer
-abbrev pub dropped_on : SettingsValue → List (List Tri) → ℕ → ℕ
-dropped_on s meshes layer = sum_by (dropped_of (pos (plane_of s layer))) meshes
+abbrev pub open_on : SettingsValue → List (List Tri) → ℕ → ℕ
+open_on s meshes layer = sum_by (open_at (pos (plane_of s layer))) meshes
 
 -- how many chains of all meshes stay open on the layers below number n
 abbrev pub open_outlines_of : SettingsValue → List (List Tri) → ℕ → ℕ
 open_outlines_of s meshes zero = 0
-open_outlines_of s meshes (suc layer) = open_outlines_of s meshes layer + dropped_on s meshes layer
+open_outlines_of s meshes (suc layer) = open_outlines_of s meshes layer + open_on s meshes layer

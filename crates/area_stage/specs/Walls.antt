@@ -12,7 +12,8 @@ use Rattle.area_stage.specs.Outlines.{outline_of}
 
 -- the walls of a mesh at a height, and what lies inside them, by the meshes before it
 unfoldable pub walls_at : ℤ → List (List Tri) → List Tri → MeshSettingsValue → Result WallSet ℕ
-walls_at z before mesh m = and_then (outline_of z before mesh) (λ outline. walls_of outline m.wall_line_count m.wall_line_width)
+walls_at z before mesh m =
+    and_then (outline_of z before mesh) (λ outline. walls_of outline m.wall_line_count m.wall_line_width)
 
 -- those of mesh i on a layer
 abbrev pub mesh_walls_of : SettingsValue → List (List Tri) → ℕ → ℕ → Result WallSet Tangle

@@ -11,7 +11,7 @@ ghost use Rattle.cross_section.specs.Planes.{plane_of};
 ghost use Rattle.clip_core.specs.declared.keeping.Operation.TheVariants.{Subtract};
 ghost use Rattle.clip_core.specs.Clip.{clipped_of};
 ghost use Rattle.wall_skin.specs.Sizes.{IsSmall};
-ghost use Rattle.area_stage.specs.Outlines.{stitched_of, cleaned_of, without_of, dropped_of};
+ghost use Rattle.area_stage.specs.Outlines.{stitched_of, cleaned_of, without_of, open_at};
 
 use crate::held::Outline;
 use clip_core::{Rule, clean, subtract};
@@ -32,7 +32,7 @@ pub(crate) struct PlaneHeight {
 #[derive(Drop)]
 pub(crate) struct CleanedOutline {
     pub(crate) outline: Outline,
-    pub(crate) dropped: u32,
+    pub(crate) open_outlines: u32,
 }
 
 /// The height of a layer's plane.
@@ -65,13 +65,13 @@ pub(crate) fn cleaned(
     requires inside { All (TriIn (around 1000000)) mesh.now }
     ensures answer { MatchResult result (λ c. cleaned_of at.z mesh.now ≡ Ok c.outline)
         (IsCutFault (cleaned_of at.z mesh.now)) }
-    ensures dropped { IfOk result (λ c. c.dropped ≡ dropped_of at.z mesh.now) }
+    ensures open_outlines { IfOk result (λ c. c.open_outlines ≡ open_at at.z mesh.now) }
 {
     let stitched = stitched(alloc, mesh, at)?;
     let region = clean(alloc, &stitched.loops, Rule::NonZero)?;
     Ok(CleanedOutline {
         outline: Outline { region },
-        dropped: stitched.dropped,
+        open_outlines: stitched.open_outlines,
     })
 }
 

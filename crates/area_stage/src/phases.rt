@@ -24,9 +24,6 @@ use std::alloc::Global;
 use std::thread;
 use std::thread::Threads;
 
-// The most threads that work at once.
-const MAX_THREADS: usize = 64;
-
 /// The walls of so many layers, one layer after another.
 pub(crate) fn job_walls(
     alloc: Global,
@@ -62,10 +59,12 @@ fn no_results<T: Drop>(alloc: Global, count: u32) -> Result<Vec<Result<T, AreaFa
 fn work_out_walls<R: Threads + Sync>(
     rt: &R,
     alloc: Global,
+    threads: u32,
     settings: &Settings,
     meshes: &[Mesh],
     results: &mut [Result<LayerWalls, AreaFault>],
 )
+    requires threads { 0 < threads }
     requires as_many { length meshes.now ≡ length settings.now.meshes }
     requires few { length results.old ≤ 40000 }
     requires low { (k : ℕ) → k < length results.old → plane_of settings.now k < 2 ^ 31 }
@@ -76,7 +75,7 @@ fn work_out_walls<R: Threads + Sync>(
     thread::for_each_mut(
         rt,
         results,
-        MAX_THREADS,
+        threads as usize,
         &|k, slot| { *slot = layer_walls(alloc, settings, meshes, k as u32) },
     );
 }
@@ -84,10 +83,12 @@ fn work_out_walls<R: Threads + Sync>(
 fn walls_at_once<R: Threads + Sync>(
     rt: &R,
     alloc: Global,
+    threads: u32,
     settings: &Settings,
     meshes: &[Mesh],
     count: u32,
 ) -> Result<Vec<Result<LayerWalls, AreaFault>>, NoMemory>
+    requires threads { 0 < threads }
     requires as_many { length meshes.now ≡ length settings.now.meshes }
     requires few { count ≤ 40000 }
     requires low { (k : ℕ) → k < count → plane_of settings.now k < 2 ^ 31 }
@@ -97,18 +98,20 @@ fn walls_at_once<R: Threads + Sync>(
     ensures len { IfOk result (λ v. length v.items ≡ count) }
 {
     let mut results = no_results(alloc, count)?;
-    work_out_walls(rt, alloc, settings, meshes, results.as_mut_slice());
+    work_out_walls(rt, alloc, threads, settings, meshes, results.as_mut_slice());
     Ok(results)
 }
 
-/// The same, by many threads.
+/// The same, by so many threads.
 pub(crate) fn job_walls_wide<R: Threads + Sync>(
     rt: &R,
     alloc: Global,
+    threads: u32,
     settings: &Settings,
     meshes: &[Mesh],
     count: u32,
 ) -> Result<JobWalls, AreaFault>
+    requires threads { 0 < threads }
     requires as_many { length meshes.now ≡ length settings.now.meshes }
     requires few { count ≤ 40000 }
     requires low { (k : ℕ) → k < count → plane_of settings.now k < 2 ^ 31 }
@@ -116,7 +119,7 @@ pub(crate) fn job_walls_wide<R: Threads + Sync>(
     ensures { MatchResult result (AreJobWalls settings.now meshes.now count)
         (IsAreaFault (up_to (layer_walls_of settings.now meshes.now) count)) }
 {
-    let results = walls_at_once(rt, alloc, settings, meshes, count)?;
+    let results = walls_at_once(rt, alloc, threads, settings, meshes, count)?;
     let mut walls = no_walls(alloc);
     for item in results {
         walls = with_layer(walls, item?)?;
@@ -146,10 +149,12 @@ pub(crate) fn job_splits(
 fn work_out_splits<R: Threads + Sync>(
     rt: &R,
     alloc: Global,
+    threads: u32,
     settings: &Settings,
     columns: &[Column],
     results: &mut [Result<Items<Filled>, AreaFault>],
 )
+    requires threads { 0 < threads }
     requires as_many { length columns.now ≡ length settings.now.meshes }
     requires few { length results.old ≤ 40000 }
     requires long { All (λ column. length column ≡ length results.old) columns.now }
@@ -159,7 +164,7 @@ fn work_out_splits<R: Threads + Sync>(
     thread::for_each_mut(
         rt,
         results,
-        MAX_THREADS,
+        threads as usize,
         &|k, slot| { *slot = layer_splits(alloc, settings, columns, k as u32) },
     );
 }
@@ -167,10 +172,12 @@ fn work_out_splits<R: Threads + Sync>(
 fn splits_at_once<R: Threads + Sync>(
     rt: &R,
     alloc: Global,
+    threads: u32,
     settings: &Settings,
     columns: &[Column],
     count: u32,
 ) -> Result<Vec<Result<Items<Filled>, AreaFault>>, NoMemory>
+    requires threads { 0 < threads }
     requires as_many { length columns.now ≡ length settings.now.meshes }
     requires few { count ≤ 40000 }
     requires long { All (λ column. length column ≡ count) columns.now }
@@ -179,25 +186,34 @@ fn splits_at_once<R: Threads + Sync>(
     ensures len { IfOk result (λ v. length v.items ≡ count) }
 {
     let mut results = no_results(alloc, count)?;
-    work_out_splits(rt, alloc, settings, columns, results.as_mut_slice());
+    work_out_splits(
+        rt,
+        alloc,
+        threads,
+        settings,
+        columns,
+        results.as_mut_slice(),
+    );
     Ok(results)
 }
 
-/// The same, by many threads.
+/// The same, by so many threads.
 pub(crate) fn job_splits_wide<R: Threads + Sync>(
     rt: &R,
     alloc: Global,
+    threads: u32,
     settings: &Settings,
     columns: &[Column],
     count: u32,
 ) -> Result<Items<Items<Filled>>, AreaFault>
+    requires threads { 0 < threads }
     requires as_many { length columns.now ≡ length settings.now.meshes }
     requires few { count ≤ 40000 }
     requires long { All (λ column. length column ≡ count) columns.now }
     ensures { MatchResult result (λ splits. up_to (layer_splits_of settings.now columns.now) count ≡ Ok splits)
         (IsAreaFault (up_to (layer_splits_of settings.now columns.now) count)) }
 {
-    let results = splits_at_once(rt, alloc, settings, columns, count)?;
+    let results = splits_at_once(rt, alloc, threads, settings, columns, count)?;
     let mut splits = Items::new(alloc);
     for item in results {
         splits.push(item?)?;

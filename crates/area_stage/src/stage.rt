@@ -4,9 +4,11 @@ ghost use Rattle.std.specs.Prelude.{◌≡◌, ◌<◌, ◌≤◌, ◌^◌, ◌�
 ghost use Rattle.std.specs.List.{All};
 ghost use Rattle.slice_base.specs.declared.points.Tri.{Tri};
 ghost use Rattle.slice_base.specs.Boxes.{TriIn, TriUnder, around};
+ghost use Rattle.slice_base.specs.Limits.{max_layers};
 ghost use Rattle.settings_core.specs.Values.{SettingsValue};
 ghost use Rattle.mesh_placing.specs.Volume.{bed_of};
-ghost use Rattle.cross_section.specs.Planes.{plane_of};
+ghost use Rattle.cross_section.specs.Heights.{top_of_all};
+ghost use Rattle.cross_section.specs.Planes.{plane_of, IsLayerCount};
 ghost use Rattle.plan_types.specs.Jobs.{JobValue};
 ghost use Rattle.area_stage.specs.declared.faults.AreaFault.{AreaFault};
 ghost use Rattle.area_stage.specs.Faults.{named};
@@ -95,17 +97,26 @@ fn job_up_to(
     let skirt = job_skirt(alloc, &settings, walls.outlines)?;
     let parted = all_parted(alloc, meshes.len(), walls.sets)?;
     let splits = job_splits(alloc, &settings, parted.columns.items(), count)?;
-    Ok(joined_job(alloc, settings, parted.walls, splits, skirt, walls.dropped)?)
+    Ok(joined_job(
+        alloc,
+        settings,
+        parted.walls,
+        splits,
+        skirt,
+        walls.open_outlines,
+    )?)
 }
 
 // The same, worked out by many threads.
 fn job_up_to_wide<R: Threads + Sync>(
     rt: &R,
     alloc: Global,
+    threads: u32,
     settings: Settings,
     meshes: &[Mesh],
     count: u32,
 ) -> Result<Job, AreaFault>
+    requires threads { 0 < threads }
     requires some { 0 < length meshes.now }
     requires as_many { length meshes.now ≡ length settings.meshes }
     requires few { count ≤ 40000 }
@@ -115,11 +126,18 @@ fn job_up_to_wide<R: Threads + Sync>(
     ensures { MatchResult result (λ job. job_up_to settings meshes.now count ≡ Ok job)
         (IsAreaFault (job_up_to settings meshes.now count)) }
 {
-    let walls = job_walls_wide(rt, alloc, &settings, meshes, count)?;
+    let walls = job_walls_wide(rt, alloc, threads, &settings, meshes, count)?;
     let skirt = job_skirt(alloc, &settings, walls.outlines)?;
     let parted = all_parted(alloc, meshes.len(), walls.sets)?;
-    let splits = job_splits_wide(rt, alloc, &settings, parted.columns.items(), count)?;
-    Ok(joined_job(alloc, settings, parted.walls, splits, skirt, walls.dropped)?)
+    let splits = job_splits_wide(rt, alloc, threads, &settings, parted.columns.items(), count)?;
+    Ok(joined_job(
+        alloc,
+        settings,
+        parted.walls,
+        splits,
+        skirt,
+        walls.open_outlines,
+    )?)
 }
 
 // How many layers there are, where they are neither none nor too many.
@@ -160,19 +178,27 @@ pub fn areas(alloc: Global, settings: Settings, meshes: &[Mesh]) -> Result<Job, 
     // They give one answer at most, so it is the result unless memory ran out.
     ensures one { (a : Result JobValue AreaFault) → AreasGive settings meshes.now a → (result ≡ a)
         ⊎ (result ≡ Err AreaFault.NoMemory) }
+
+    // Want of memory never stands where there are no layers, or too many.
+    ensures none { IsLayerCount settings (top_of_all meshes.now) 0 → result ≡ Err AreaFault.NoLayers }
+    ensures too_many { (n : ℕ) → IsLayerCount settings (top_of_all meshes.now) n → max_layers < n
+        → result ≡ Err (AreaFault.TooManyLayers n) }
 {
     one_areas();
+    one_layer_count();
     let count = fitting_count(&settings, meshes)?;
     job_up_to(alloc, settings, meshes, count)
 }
 
-/// The same, layers worked out at once by many threads, for which the call may wait.
+/// The same, layers worked out at once by so many threads, for which the call may wait.
 pub fn areas_wide<R: Threads + Sync>(
     rt: &R,
     alloc: Global,
+    threads: u32,
     settings: Settings,
     meshes: &[Mesh],
 ) -> Result<Job, AreaFault>
+    requires threads { 0 < threads }
     requires some { 0 < length meshes.now }
     requires as_many { length meshes.now ≡ length settings.meshes }
     requires each { All (λ m. 0 < length m) meshes.now }
@@ -183,8 +209,14 @@ pub fn areas_wide<R: Threads + Sync>(
     // They give one answer at most, so it is the result unless memory ran out.
     ensures one { (a : Result JobValue AreaFault) → AreasGive settings meshes.now a → (result ≡ a)
         ⊎ (result ≡ Err AreaFault.NoMemory) }
+
+    // Want of memory never stands where there are no layers, or too many.
+    ensures none { IsLayerCount settings (top_of_all meshes.now) 0 → result ≡ Err AreaFault.NoLayers }
+    ensures too_many { (n : ℕ) → IsLayerCount settings (top_of_all meshes.now) n → max_layers < n
+        → result ≡ Err (AreaFault.TooManyLayers n) }
 {
     one_areas();
+    one_layer_count();
     let count = fitting_count(&settings, meshes)?;
-    job_up_to_wide(rt, alloc, settings, meshes, count)
+    job_up_to_wide(rt, alloc, threads, settings, meshes, count)
 }

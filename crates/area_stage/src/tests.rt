@@ -159,7 +159,7 @@ fn a_plate_has_one_wall_on_each_of_two_layers(rt: HostRuntime) -> Result<(), Fai
     assert!(rt; job.skirt.loops().is_empty());
     let settings = resolve(alloc, pairs(alloc, &PLATE)?.as_slice(), &[0])?;
     let meshes = [placed(alloc, &settings, 0, low, high)?];
-    assert!(rt; is_plate(&areas_wide(&rt, alloc, settings, &meshes)?));
+    assert!(rt; is_plate(&areas_wide(&rt, alloc, 4, settings, &meshes)?));
     Ok(())
 }
 

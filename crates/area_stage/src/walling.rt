@@ -14,7 +14,7 @@ ghost use Rattle.wall_skin.specs.Walls.{walls_of};
 ghost use Rattle.area_stage.specs.Faults.{named};
 ghost use Rattle.area_stage.specs.Inner.Faults.{IsAreaFault};
 ghost use Rattle.area_stage.specs.Meshes.{mesh_settings_of};
-ghost use Rattle.area_stage.specs.Outlines.{cleaned_of, dropped_of, dropped_on};
+ghost use Rattle.area_stage.specs.Outlines.{cleaned_of, open_at, open_on};
 ghost use Rattle.area_stage.specs.Walls.{walls_at, layer_walls_of};
 ghost use Rattle.area_stage.specs.Inner.Walls.{walls_with, walls_without_of, AreLayerWalls, AreJobWalls};
 
@@ -33,7 +33,7 @@ use wall_skin::walls;
 struct MeshWalls {
     set: Walled,
     outline: Outline,
-    dropped: u32,
+    open_outlines: u32,
 }
 
 /// The walls of all meshes on a layer, with the cleaned outlines of the first layer, and how many chains of all
@@ -42,7 +42,7 @@ struct MeshWalls {
 pub(crate) struct LayerWalls {
     pub(crate) sets: Items<Walled>,
     pub(crate) outlines: Items<Outline>,
-    pub(crate) dropped: u64,
+    pub(crate) open_outlines: u64,
 }
 
 /// The same of many layers.
@@ -50,7 +50,7 @@ pub(crate) struct LayerWalls {
 pub(crate) struct JobWalls {
     pub(crate) sets: Items<Items<Walled>>,
     pub(crate) outlines: Items<Outline>,
-    pub(crate) dropped: u64,
+    pub(crate) open_outlines: u64,
 }
 
 /// The settings of mesh `i`. There are at most 16 meshes, and each has an extruder that is there.
@@ -108,14 +108,14 @@ fn mesh_walls(
         → MatchResult result (λ w. walls_at at.z before mesh.now m ≡ Ok w.set)
         (IsCutFault (walls_at at.z before mesh.now m)) }
     ensures own { IfOk result (λ w. cleaned_of at.z mesh.now ≡ Ok w.outline) }
-    ensures dropped { IfOk result (λ w. w.dropped ≡ dropped_of at.z mesh.now) }
+    ensures open_outlines { IfOk result (λ w. w.open_outlines ≡ open_at at.z mesh.now) }
 {
     let own = cleaned(alloc, mesh, at)?;
     let set = walls_without(alloc, m, &own.outline, others)?;
     Ok(MeshWalls {
         set,
         outline: own.outline,
-        dropped: own.dropped,
+        open_outlines: own.open_outlines,
     })
 }
 
@@ -134,7 +134,7 @@ fn named_walls(
         → MatchResult result (λ w. named i layer (walls_at at.z before mesh.now m) ≡ Ok w.set)
         (IsAreaFault (named i layer (walls_at at.z before mesh.now m))) }
     ensures own { IfOk result (λ w. cleaned_of at.z mesh.now ≡ Ok w.outline) }
-    ensures dropped { IfOk result (λ w. w.dropped ≡ dropped_of at.z mesh.now) }
+    ensures open_outlines { IfOk result (λ w. w.open_outlines ≡ open_at at.z mesh.now) }
 {
     named_result(mesh_walls(alloc, mesh, m, others, at), i, layer)
 }
@@ -166,18 +166,18 @@ pub(crate) fn layer_walls(
     let at = height(settings, layer);
     let mut outlines = Items::new(alloc);
     let mut sets = Items::new(alloc);
-    let mut dropped = 0u64;
+    let mut open_outlines = 0u64;
     for i in 0..meshes.len() {
         let m = mesh_settings(settings, i);
         let next = named_walls(alloc, &meshes[i], m, outlines.items(), at, i as u8, layer)?;
-        dropped += next.dropped as u64;
+        open_outlines += next.open_outlines as u64;
         outlines.push(next.outline)?;
         sets.push(next.set)?;
     }
     Ok(LayerWalls {
         sets,
         outlines: first_outlines(alloc, outlines, layer),
-        dropped,
+        open_outlines,
     })
 }
 
@@ -188,7 +188,7 @@ pub(crate) fn no_walls(alloc: Global) -> JobWalls
     JobWalls {
         sets: Items::new(alloc),
         outlines: Items::new(alloc),
-        dropped: 0,
+        open_outlines: 0,
     }
 }
 
@@ -201,8 +201,8 @@ fn kept_outlines(count: usize, old: Items<Outline>, new: Items<Outline>) -> Item
 
 /// The walls of one more layer behind the others.
 pub(crate) fn with_layer(walls: JobWalls, layer: LayerWalls) -> Result<JobWalls, NoMemory>
-    requires few { walls.dropped ≤ 40000 * (16 * 2 ^ 32) }
-    requires layer_few { layer.dropped ≤ 16 * 2 ^ 32 }
+    requires few { walls.open_outlines ≤ 40000 * (16 * 2 ^ 32) }
+    requires layer_few { layer.open_outlines ≤ 16 * 2 ^ 32 }
     ensures { (s : SettingsValue) (meshes : List (List Tri)) (n : ℕ) → AreJobWalls s meshes n walls
         → AreLayerWalls s meshes n layer → IfOk result (λ more. AreJobWalls s meshes (n + 1) more) }
 {
@@ -212,6 +212,6 @@ pub(crate) fn with_layer(walls: JobWalls, layer: LayerWalls) -> Result<JobWalls,
     Ok(JobWalls {
         sets,
         outlines: kept_outlines(count, walls.outlines, layer.outlines),
-        dropped: walls.dropped + layer.dropped,
+        open_outlines: walls.open_outlines + layer.open_outlines,
     })
 }

@@ -3,6 +3,7 @@ use Rattle.std.specs.Prelude.{ℕ, zero, suc, ◌==◌, Bool, true, false, ◌&&
 use Rattle.slice_base.specs.Shapes.{Bytes}
 use Rattle.plan_types.specs.Extruders.{extruder_of, has_bit}
 use Rattle.plan_types.specs.Jobs.{JobValue}
+use Rattle.plan_types.specs.Orders.{all_extruders}
 use Rattle.gcode_text.specs.declared.labels.FixedLine.TheVariants.{Flavor, Millimetres, Absolute, AbsoluteE, ZeroE}
 use Rattle.gcode_text.specs.declared.labels.Counted.TheVariants.{OpenOutlines, LayerCount}
 use Rattle.gcode_text.specs.Lines.{heat_of, bed_of, tool_of, blow_of, plain_of, count_of}
@@ -11,10 +12,6 @@ use Rattle.gcode_write.specs.declared.progress.Progress.{Progress}
 -- extruder e is wanted on some layer; where none is, the first one counts
 abbrev pub is_used : JobValue → ℕ → Bool
 is_used job e = has_bit job.used e || (job.used == 0 && job.first == e)
-
--- the numbers of all extruders that a printer can have
-abbrev pub all_extruders : List ℕ
-all_extruders = 0 ∷ 1 ∷ 2 ∷ 3 ∷ 4 ∷ 5 ∷ 6 ∷ 7 ∷ []
 
 -- the bed gets its temperature, where it is heated
 abbrev pub bed_heating_of : Bool → ℕ → Bytes
@@ -45,7 +42,8 @@ print_degrees_of job e = (extruder_of job.settings.extruders e).material_print_t
 -- bed and extruders heat up; the bed and the first extruder are waited for
 abbrev pub heating_of : JobValue → Bytes
 heating_of job =
-    bed_heating_of false job.settings.material_bed_temperature ++ heat_of false job.first (print_degrees_of job job.first) ++
+    bed_heating_of false job.settings.material_bed_temperature
+    ++ heat_of false job.first (print_degrees_of job job.first) ++
     standbys_of job all_extruders ++ bed_heating_of true job.settings.material_bed_temperature ++
     heat_of true job.first (print_degrees_of job job.first)
 
@@ -53,7 +51,8 @@ heating_of job =
 abbrev pub header_of : JobValue → Bytes
 header_of job =
     plain_of Flavor ++ count_of OpenOutlines job.open_outlines ++ heating_of job ++ job.settings.machine_start_gcode ++
-    plain_of Millimetres ++ plain_of Absolute ++ plain_of AbsoluteE ++ tool_of job.first ++ plain_of ZeroE ++ blow_of 0 ++
+    plain_of Millimetres ++ plain_of Absolute ++ plain_of AbsoluteE ++ tool_of job.first ++ plain_of ZeroE ++ blow_of 0
+    ++
     count_of LayerCount (length job.layers)
 
 -- where the layers begin: with the first extruder, nothing printed yet, the fan off

@@ -37,7 +37,8 @@ after_path es s e p = record {
 }
 
 -- the paths of an extruder in order, the first of which has this number in its layer
-abbrev pub paths_of : List ExtruderSettingsValue → LayerPlanValue → Progress → ℕ → ℕ → Option Kind → List PathValue → Bytes
+abbrev pub paths_of : List ExtruderSettingsValue → LayerPlanValue → Progress → ℕ → ℕ → Option Kind → List PathValue
+    → Bytes
 paths_of es l s e at kind [] = []
 paths_of es l s e at kind (p ∷ ps) =
     path_of es l s e at kind p ++ paths_of es l (after_path es s e p) e (at + 1) (Some p.kind) ps

@@ -46,5 +46,6 @@ pub record Broke {S : Type 0} (output : S → Output) (text : Bytes) (before aft
   pub name : (output after.sink).name ≡ (output before.sink).name
   pub begun : (output after.sink).begun ≡ (output before.sink).begun
   pub begins : (output after.sink).begins ≡ (output before.sink).begins
-  pub ends : ((output after.sink).ends ≡ (output before.sink).ends) ⊎ ((output after.sink).ends ≡ counted (output before.sink).ends)
+  pub ends : ((output after.sink).ends ≡ (output before.sink).ends)
+      ⊎ ((output after.sink).ends ≡ counted (output before.sink).ends)
   pub cause : (output after.sink).faults ≡ counted (output before.sink).faults

@@ -96,7 +96,8 @@ impl<'a, S: Sink> Writer<'a, S> {
         told(self.pen.failed)
     }
 
-    /// Puts the footer, and ends the sink. Fails exactly where a write failed in this call or before it.
+    /// Puts the footer, and ends the sink. Fails exactly where a write failed in this call or before it. Called
+    /// again, it puts the footer once more, and a layer that comes after it stands behind the footer.
     pub fn finish(&mut self) -> Result<(), WriteFault>
         ensures ok { OnOk result (Ended (footer_of self.old.job.now) (S.output self.old.pen.sink)
             (S.output self.new.pen.sink)) }

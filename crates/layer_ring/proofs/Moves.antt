@@ -1,6 +1,7 @@
 -- One event more, or none, as a seat of the lock sees it.
-use Rattle.std.proofs.Common.{◌≡◌, ℕ, Option, Some, None, IsSome, IfSome, List, [], ◌∷◌, ◌++◌, refl, sym, ap, ◌∙◌, subst, inl}
+use Rattle.std.proofs.Common.{◌≡◌, ℕ, Option, Some, None, IsSome, IfSome, List, [], ◌∷◌, ◌++◌, refl, sym, ap, ◌∙◌, subst, inl, append_assoc}
 use Rattle.std.proofs.lemmas.List.{append-nil}
+use mathlib.Core.List.{IsPrefix}
 use Rattle.turn_lock.specs.Events.{GrewBy}
 use Rattle.ring_core.specs.declared.event.Event.{Event}
 use Rattle.ring_core.specs.declared.event.Event.TheVariants.{Back, Halt}
@@ -50,3 +51,13 @@ halted_over n w r s k m = record {
 -- what comes back for the layer of the turn, where that layer is known
 pub given_back : {N : Type 0} (w : ℕ) (r s : Ring N) (o : Option ℕ) (l : ℕ) → IfSome o (λ i. Moved w r s (Back w i)) → o ≡ Some l → Moved w r s (Back w l)
 given_back w r s o l h is = subst (λ p. IfSome p (λ i. Moved w r s (Back w i))) is h
+
+pub prefix_refl : (xs : List Event) → IsPrefix xs xs
+prefix_refl xs = ([], append-nil xs)
+
+pub prefix_trans : (xs ys zs : List Event) → IsPrefix xs ys → IsPrefix ys zs → IsPrefix xs zs
+prefix_trans xs ys zs p q = (p.0 ++ q.0, sym (append_assoc xs p.0 q.0) ∙ (ap (λ l. l ++ q.0) p.1 ∙ q.1))
+
+-- what a seat had seen begins what it has seen once it gave the ring back
+pub seen_later : {N : Type 0} (w : ℕ) (r s : Ring N) (xs ys : List Event) → IsPrefix xs r.events → GrewBy who w r.events s.events → ys ≡ s.events → IsPrefix xs ys
+seen_later w r s xs ys p g is = subst (IsPrefix xs) (sym is) (prefix_trans xs r.events s.events p g.0)

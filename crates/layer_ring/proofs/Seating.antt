@@ -1,5 +1,5 @@
 -- The seats of a ring's workers, joined one after another.
-use Rattle.std.proofs.Common.{◌≡◌, ℕ, zero, suc, ◌+◌, ◌<◌, Bool, true, false, cond, List, [], ◌∷◌, ◌++◌, length, get_or, refl, sym, ap, ◌∙◌, subst, arith, eq-eqb, append_assoc, ◌==◌}
+use Rattle.std.proofs.Common.{◌≡◌, ℕ, zero, suc, ◌+◌, ◌<◌, Bool, true, false, cond, List, [], ◌∷◌, ◌++◌, length, get_or, refl, sym, ap, ◌∙◌, subst, arith, eq-eqb, ◌==◌}
 use Rattle.std.proofs.lemmas.List.{append-nil}
 use mathlib.Core.Logic.{dite}
 use native.Mathlib.Decide.{ℕ_discrete}
@@ -12,6 +12,7 @@ use Rattle.ring_core.specs.Core.{who}
 use Rattle.layer_ring.specs.Ends.{Ended}
 use Rattle.layer_ring.specs.Inner.Seats.{SawEnd}
 use Rattle.layer_ring.specs.Inner.Seats.{AtEnd, Joined, Gathered}
+use Rattle.layer_ring.proofs.Moves.{prefix_trans}
 
 cond_more : (b c d : Bool) → (c ≡ true → d ≡ true) → cond b true c ≡ true → cond b true d ≡ true
 cond_more true c d f h = refl
@@ -31,9 +32,6 @@ has_right (x ∷ xs) ys n h = cond_right (x == n) (has_number (xs ++ ys) n) (has
 
 has_one : (n : ℕ) → has_number (n ∷ []) n ≡ true
 has_one n = ap (λ b. cond b true false) (eq-eqb n n refl)
-
-prefix_trans : (xs ys zs : List Event) → IsPrefix xs ys → IsPrefix ys zs → IsPrefix xs zs
-prefix_trans xs ys zs p q = (p.0 ++ q.0, sym (append_assoc xs p.0 q.0) ∙ (ap (λ l. l ++ q.0) p.1 ∙ q.1))
 
 saw_more : (n v : ℕ) (xs ys : List Event) → SawEnd n v xs → IsPrefix xs ys → made_by who v ys ≡ made_by who v xs → SawEnd n v ys
 saw_more n v xs ys s p same = record { seen = s.seen; before = prefix_trans s.seen xs ys s.before p; all_own = same ∙ s.all_own; ended = s.ended }

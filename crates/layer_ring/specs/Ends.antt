@@ -14,7 +14,8 @@ pub record IsRefused (es : List Event) : Type 0 where
 abbrev pub IsOver : ℕ → List Event → Type 0
 IsOver n es = IsSome (reached es).cause ⊎ ((reached es).claimed ≡ n) × IsRefused es
 
--- the worker w has ended: it doesn't hold the turn and has no layer in work, unless it halted and a cause is kept; and there is nothing left to do
+-- the worker w has ended: it doesn't hold the turn and has no layer in work, unless it halted and a cause is kept; and
+-- there is nothing left to do
 pub record Ended (n w : ℕ) (es : List Event) : Type 0 where
   pub turn : (stage w es).turn ≡ None
   pub work : (stage w es).halted ≡ false → (stage w es).work ≡ None

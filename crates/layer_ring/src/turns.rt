@@ -1,6 +1,7 @@
 // A worker's critical sections, each of one call of the ring.
 
 ghost use Rattle.std.specs.Prelude.{◌≡◌, ◌+◌, ◌<◌, ◌≤◌, true, false, None, Some, IsSome, IsSomeAnd};
+ghost use mathlib.Core.List.{IsPrefix};
 ghost use Rattle.slice_base.specs.Causes.{Rose};
 ghost use Rattle.ring_core.specs.Core.{stage, resting};
 ghost use Rattle.layer_ring.specs.Ends.{IsOver, Ended};
@@ -13,7 +14,7 @@ use std::sync::Wait;
 use turn_lock::{Seat, TurnLock};
 
 // What the worker does next.
-#[tactic(auto, using(crate::proofs::Giving::gives, crate::proofs::Giving::keeps_name))]
+#[tactic(auto, using(crate::proofs::Giving::gives, crate::proofs::Giving::keeps_name, crate::proofs::Moves::seen_later))]
 pub(crate) fn next<P: Planner + Drop, C: Consumer<P::Plan, Name = P::Name>, R: Wait>(
     rt: &R,
     lock: &TurnLock<RingState<P, C>>,
@@ -23,6 +24,7 @@ pub(crate) fn next<P: Planner + Drop, C: Consumer<P::Plan, Name = P::Name>, R: W
     requires worker { IsSomeAnd seat.old.name (λ n. seat.old.number < n.workers) }
     requires idle { stage seat.old.number seat.old.seen ≡ resting }
     ensures seat { seat.new ≡ record seat.old { seen = seat.new.seen } }
+    ensures later { IsPrefix seat.old.seen seat.new.seen }
     ensures stage { stage seat.old.number seat.new.seen ≡ stage_of result }
     ensures plan { IfPlan result (λ l. IsSomeAnd seat.old.name (λ n. l < P.layers n.planner)) }
     ensures feed { IfFeed result (λ t. IsSomeAnd seat.old.name (λ n. (t.layer < C.layers n.planner)
@@ -38,7 +40,7 @@ pub(crate) fn next<P: Planner + Drop, C: Consumer<P::Plan, Name = P::Name>, R: W
 }
 
 // Places the plan of a layer in work.
-#[tactic(auto, using(crate::proofs::Moves::moved_grew))]
+#[tactic(auto, using(crate::proofs::Moves::moved_grew, crate::proofs::Moves::seen_later))]
 pub(crate) fn place<P: Planner + Drop, C: Consumer<P::Plan, Name = P::Name>, R: Wait>(
     rt: &R,
     lock: &TurnLock<RingState<P, C>>,
@@ -50,6 +52,7 @@ pub(crate) fn place<P: Planner + Drop, C: Consumer<P::Plan, Name = P::Name>, R: 
     requires work { stage seat.old.number seat.old.seen ≡ record resting { work = Some layer } }
     requires plan { IsSomeAnd seat.old.name (λ n. plan ≡ P.plan_of n.planner layer) }
     ensures seat { seat.new ≡ record seat.old { seen = seat.new.seen } }
+    ensures later { IsPrefix seat.old.seen seat.new.seen }
     ensures stage { stage seat.old.number seat.new.seen ≡ resting }
 {
     let worker = seat.worker();
@@ -59,7 +62,7 @@ pub(crate) fn place<P: Planner + Drop, C: Consumer<P::Plan, Name = P::Name>, R: 
 }
 
 // Gives the consumer back, which has accepted what was taken.
-#[tactic(auto, using(crate::proofs::Moves::moved_grew))]
+#[tactic(auto, using(crate::proofs::Moves::moved_grew, crate::proofs::Moves::seen_later))]
 pub(crate) fn give_back<P: Planner + Drop, C: Consumer<P::Plan, Name = P::Name>, R: Wait>(
     rt: &R,
     lock: &TurnLock<RingState<P, C>>,
@@ -73,6 +76,7 @@ pub(crate) fn give_back<P: Planner + Drop, C: Consumer<P::Plan, Name = P::Name>,
     requires named { IsSomeAnd seat.old.name (λ n. (C.name consumer ≡ n.planner)
         × (n.faults ≤ C.fault_count consumer)) }
     ensures seat { seat.new ≡ record seat.old { seen = seat.new.seen } }
+    ensures later { IsPrefix seat.old.seen seat.new.seen }
     ensures stage { stage seat.old.number seat.new.seen ≡ resting }
 {
     let worker = seat.worker();
@@ -82,7 +86,7 @@ pub(crate) fn give_back<P: Planner + Drop, C: Consumer<P::Plan, Name = P::Name>,
 }
 
 // Halts for want of memory, with a layer in work.
-#[tactic(auto, using(crate::proofs::Moves::moved_grew, crate::proofs::Moves::halted_over))]
+#[tactic(auto, using(crate::proofs::Moves::moved_grew, crate::proofs::Moves::seen_later, crate::proofs::Moves::halted_over))]
 pub(crate) fn halt_memory<P: Planner + Drop, C: Consumer<P::Plan, Name = P::Name>, R: Wait>(
     rt: &R,
     lock: &TurnLock<RingState<P, C>>,
@@ -92,6 +96,7 @@ pub(crate) fn halt_memory<P: Planner + Drop, C: Consumer<P::Plan, Name = P::Name
     requires own { (seat.old.lock ≡ lock.now.id) × (seat.old.turn ≡ false) }
     requires work { stage seat.old.number seat.old.seen ≡ record resting { work = Some layer } }
     ensures seat { seat.new ≡ record seat.old { seen = seat.new.seen } }
+    ensures later { IsPrefix seat.old.seen seat.new.seen }
     ensures ended { IsSomeAnd seat.old.name (λ n. Ended n.layers seat.old.number seat.new.seen) }
 {
     let worker = seat.worker();
@@ -101,7 +106,7 @@ pub(crate) fn halt_memory<P: Planner + Drop, C: Consumer<P::Plan, Name = P::Name
 }
 
 // Halts for a failed write, and gives the consumer back with its count of faults.
-#[tactic(auto, using(crate::proofs::Moves::moved_grew, crate::proofs::Moves::halted_over))]
+#[tactic(auto, using(crate::proofs::Moves::moved_grew, crate::proofs::Moves::seen_later, crate::proofs::Moves::halted_over))]
 pub(crate) fn halt_write<P: Planner + Drop, C: Consumer<P::Plan, Name = P::Name>, R: Wait>(
     rt: &R,
     lock: &TurnLock<RingState<P, C>>,
@@ -114,6 +119,7 @@ pub(crate) fn halt_write<P: Planner + Drop, C: Consumer<P::Plan, Name = P::Name>
     requires failed { IsSomeAnd seat.old.name (λ n. (C.name consumer ≡ n.planner)
         × Rose n.faults (C.fault_count consumer)) }
     ensures seat { seat.new ≡ record seat.old { seen = seat.new.seen } }
+    ensures later { IsPrefix seat.old.seen seat.new.seen }
     ensures ended { IsSomeAnd seat.old.name (λ n. Ended n.layers seat.old.number seat.new.seen) }
 {
     let worker = seat.worker();

@@ -1,6 +1,7 @@
 // A worker's loop.
 
 ghost use Rattle.std.specs.Prelude.{◌≡◌, ◌+◌, ◌<◌, ◌≤◌, true, false, None, Some, IsSome, IsSomeAnd, MatchBool};
+ghost use mathlib.Core.List.{IsPrefix};
 ghost use Rattle.ring_core.specs.Core.{stage, resting};
 ghost use Rattle.layer_ring.specs.Ends.{Ended};
 
@@ -27,6 +28,7 @@ fn plan<P: Planner + Drop, C: Consumer<P::Plan, Name = P::Name>, G: Gate, R: Wai
     requires work { stage seat.old.number seat.old.seen ≡ record resting { work = Some layer } }
     requires planned { layer < P.layers (P.name planner.now) }
     ensures seat { seat.new ≡ record seat.old { seen = seat.new.seen } }
+    ensures later { IsPrefix seat.old.seen seat.new.seen }
     ensures stage { MatchBool result (stage seat.old.number seat.new.seen ≡ resting) (IsSomeAnd seat.old.name
         (λ n. Ended n.layers seat.old.number seat.new.seen)) }
 {
@@ -57,6 +59,7 @@ fn feed<P: Planner + Drop, C: Consumer<P::Plan, Name = P::Name>, R: Wait>(
         × (taken.plan ≡ C.plan_of n.planner taken.layer) × (C.name taken.consumer ≡ n.planner)
         × (n.faults ≤ C.fault_count taken.consumer) × C.is_at taken.consumer taken.layer) }
     ensures seat { seat.new ≡ record seat.old { seen = seat.new.seen } }
+    ensures later { IsPrefix seat.old.seen seat.new.seen }
     ensures stage { MatchBool result (stage seat.old.number seat.new.seen ≡ resting) (IsSomeAnd seat.old.name
         (λ n. Ended n.layers seat.old.number seat.new.seen)) }
 {
@@ -78,7 +81,8 @@ fn feed<P: Planner + Drop, C: Consumer<P::Plan, Name = P::Name>, R: Wait>(
 }
 
 /// A worker's loop: it takes and feeds while a take is granted, else claims and plans, until a cause is kept or
-/// all layers are claimed and its take is refused.
+/// all layers are claimed and its take is refused. What the seat had seen before begins what it has seen then.
+#[tactic(auto, using(crate::proofs::Moves::prefix_refl, crate::proofs::Moves::prefix_trans))]
 pub fn work<P: Planner + Drop, C: Consumer<P::Plan, Name = P::Name>, G: Gate, R: Wait>(
     rt: &R,
     alloc: Global,
@@ -91,6 +95,7 @@ pub fn work<P: Planner + Drop, C: Consumer<P::Plan, Name = P::Name>, G: Gate, R:
     requires planner { IsSomeAnd seat.old.name (λ n. (n.planner ≡ P.name planner.now) × (seat.old.number < n.workers)) }
     requires idle { stage seat.old.number seat.old.seen ≡ resting }
     ensures seat { seat.new ≡ record seat.old { seen = seat.new.seen } }
+    ensures later { IsPrefix seat.old.seen seat.new.seen }
     ensures ended { IsSomeAnd seat.old.name (λ n. Ended n.layers seat.old.number seat.new.seen) }
 {
     'work: for _ in rt.forever() {

@@ -27,16 +27,19 @@ pub record Past : Type 0 where
   pub before : Output
 
 -- the first n of these plans were written, and the others are held
-pub record HasWritten {S : Type 0} (output : S → Output) (job : JobValue) (past : Past) (n : ℕ) (held : Held) (progress : Progress) (pen : Pen S) : Type 0 where
+pub record HasWritten {S : Type 0} (output : S → Output) (job : JobValue) (past : Past) (n : ℕ) (held : Held)
+    (progress : Progress) (pen : Pen S) : Type 0 where
   pub fresh : All IsFresh past.plans
   pub follows : Follows (rules_of job) past.plans n held
-  pub stands : progress ≡ after_layers job.settings.extruders (start_of job) (take n (completed_of (rules_of job) past.plans))
+  pub stands : progress
+      ≡ after_layers job.settings.extruders (start_of job) (take n (completed_of (rules_of job) past.plans))
   pub stream : Streamed output past.name (text_up_to job past.plans n) past.before pen
 
 -- so many of these plans were accepted as there are, and all but the last window of them were written
 pub record HasAccepted {S : Type 0} (output : S → Output) (buffer : BufferValue S) (past : Past) : Type 0 where
   pub taken : buffer.window.taken ≡ length past.plans
-  pub written : HasWritten output buffer.job past (length past.plans - buffer.job.settings.preheat_window_layers) buffer.window.held buffer.progress buffer.pen
+  pub written : HasWritten output buffer.job past
+      (length past.plans - buffer.job.settings.preheat_window_layers) buffer.window.held buffer.progress buffer.pen
 
 -- begun and ended once under this name, it holds exactly these bytes, all of them at its end
 pub record Finished (name file : Bytes) (before after : Output) : Type 0 where

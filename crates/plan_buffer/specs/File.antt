@@ -11,7 +11,8 @@ use Rattle.preheat_plan.specs.Completed.{completed_of}
 -- the whole file: the header, the layers with their preheats, the footer
 abbrev pub file_of : JobValue → List LayerPlanValue → Bytes
 file_of job plans =
-    header_of job ++ layers_text_of job.settings.extruders (start_of job) (completed_of (rules_of job) plans) ++ footer_of job
+    header_of job ++ layers_text_of job.settings.extruders (start_of job) (completed_of (rules_of job) plans)
+    ++ footer_of job
 
 -- the header and the texts of the first n layers
 abbrev pub text_up_to : JobValue → List LayerPlanValue → ℕ → Bytes
@@ -25,7 +26,8 @@ written_of job plans k = text_up_to job plans (k - job.settings.preheat_window_l
 -- the text of layer n of completed plans
 abbrev pub layer_of : JobValue → List LayerPlanValue → ℕ → Bytes
 layer_of job completed n =
-    layers_text_of job.settings.extruders (after_layers job.settings.extruders (start_of job) (take n completed)) (take 1 (drop n completed))
+    layers_text_of job.settings.extruders
+    (after_layers job.settings.extruders (start_of job) (take n completed)) (take 1 (drop n completed))
 
 -- the text of layer n, with the preheats that stand there
 abbrev pub text_of : JobValue → List LayerPlanValue → ℕ → Bytes

@@ -5,7 +5,7 @@ use Rattle.slice_base.specs.Shapes.{Bytes}
 use Rattle.outside.specs.declared.pens.Pen.{Pen}
 use Rattle.outside.specs.Holding.{GainedFront, emptied_of}
 use Rattle.outside.specs.Output.{Output}
-use Rattle.outside.specs.Pens.{bytes_after}
+use Rattle.outside.specs.Pens.{Wrote, bytes_after}
 use Rattle.gcode_write.specs.Writing.{Began}
 
 -- begun once under this name; one put failed, and a front of these bytes is there and was counted
@@ -19,7 +19,13 @@ pub record Broken (name text : Bytes) (before now : Output) (count : ℕ) : Type
   pub failed_once : now.faults ≡ counted before.faults
 
 -- the sink was begun once under this name, and holds exactly these bytes; or, once a put failed, a front of them
-pub record Streamed {S : Type 0} (output : S → Output) (name text : Bytes) (before : Output) (pen : Pen S) : Type 0 where
+pub record Streamed {S : Type 0} (output : S → Output) (name text : Bytes) (before : Output) (pen : Pen S)
+    : Type 0 where
   pub whole : pen.failed ≡ false → Began name text before (output pen.sink)
   pub bytes : pen.failed ≡ false → pen.bytes ≡ bytes_after 0 (length text)
   pub broken : pen.failed ≡ true → Broken name text before (output pen.sink) pen.bytes
+
+-- something was written, or, where a put had failed, nothing
+pub record WroteSome {S : Type 0} (output : S → Output) (pen pen_after : Pen S) : Type 0 where
+  pub text : Bytes
+  pub wrote : Wrote output pen text pen_after

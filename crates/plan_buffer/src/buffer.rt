@@ -11,9 +11,9 @@ ghost use Rattle.plan_types.specs.Leads.{origin};
 ghost use Rattle.gcode_write.specs.Ends.{header_of, start_of};
 ghost use Rattle.preheat_plan.specs.Held.{nothing_held};
 ghost use Rattle.plan_buffer.specs.File.{file_of};
-ghost use Rattle.plan_buffer.specs.Streams.{Streamed};
+ghost use Rattle.plan_buffer.specs.Streams.{Streamed, WroteSome};
 ghost use Rattle.plan_buffer.specs.Accepted.{Past, HasAccepted, Finished, BrokeOff};
-ghost use Rattle.plan_buffer.specs.Inner.Sound.{IsBuffer, WroteSome};
+ghost use Rattle.plan_buffer.specs.Inner.Sound.{IsBuffer};
 
 use crate::writing::{write_all, write_oldest};
 use gcode_write::{WriteFault, Writer};
@@ -116,7 +116,7 @@ impl<'a, S: Sink> PlanBuffer<'a, S> {
     }
 
     /// Writes all plans that are held and the footer, and ends the sink. Fails exactly where a write failed in
-    /// this call or before it.
+    /// this call or before it. Called again, it puts the footer once more.
     pub fn flush(&mut self) -> Result<(), WriteFault>
         ensures ok { (past : Past) → HasAccepted S.output self.old past
             → OnOk result (Finished past.name (file_of self.old.job past.plans) past.before

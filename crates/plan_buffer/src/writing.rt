@@ -5,7 +5,8 @@ ghost use Rattle.std.specs.List.{All};
 ghost use Rattle.outside.specs.Pens.{Wrote};
 ghost use Rattle.preheat_plan.specs.Completed.{KnowsItsExtruders};
 ghost use Rattle.plan_buffer.specs.Accepted.{Past, HasWritten};
-ghost use Rattle.plan_buffer.specs.Inner.Sound.{WroteOldest, WroteSome};
+ghost use Rattle.plan_buffer.specs.Streams.{WroteSome};
+ghost use Rattle.plan_buffer.specs.Inner.Sound.{WroteOldest};
 
 use gcode_write::{WriteFault, Writer};
 use outside::{Sink, pens_add_up};

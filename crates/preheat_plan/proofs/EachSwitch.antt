@@ -197,3 +197,23 @@ all_stand r plans =
     let n = path_counts_of led in
     let size : length (whole_of led) ≡ n = length-steps_from 0 led in
     inserts_counted r.degrees 0 ps led ∙ all_counted n ps (All-weaker (λ (p : Preheat). p.at < 0 + length (whole_of led)) (λ (p : Preheat). p.at < n) (λ p h. omega (arith, h, size)) ps (preheats-lt r [] (whole_of led)))
+
+-- the preheats of a layer's boundaries stand in its plan
+heated-stands : (d : ℕ → ℕ) (at : ℕ) (ps : List Preheat) (ls below above : List LayerPlan) (l : LayerPlan) → heated_from d at ps ls ≡ below ++ l ∷ above
+    → l.inserts ≡ inserts_at d (at + path_counts_of below) (path_count_of l) ps
+heated-stands d at ps [] [] above l e = absurd (cc e)
+heated-stands d at ps [] (y ∷ ys) above l e = absurd (cc e)
+heated-stands d at ps (x ∷ xs) [] above l e =
+    let same : record x { inserts = inserts_at d at (path_count_of x) ps } ≡ l = cc e in
+    let here : at ≡ at + path_counts_of [] = omega arith in
+    subst (λ (k : LayerPlan). k.inserts ≡ inserts_at d (at + path_counts_of []) (path_count_of k) ps) same (ap (λ n. inserts_at d n (path_count_of x) ps) here)
+heated-stands d at ps (x ∷ xs) (y ∷ ys) above l e =
+    let same : record x { inserts = inserts_at d at (path_count_of x) ps } ≡ y = cc e in
+    let others : heated_from d (at + path_count_of x) ps xs ≡ ys ++ l ∷ above = cc e in
+    let n : path_count_of x ≡ path_count_of y = ap path_count_of same in
+    let there : (at + path_count_of x) + path_counts_of ys ≡ at + path_counts_of (y ∷ ys) = omega (arith, n, sum_by-cons path_count_of y ys) in
+    heated-stands d (at + path_count_of x) ps xs ys above l others ∙ ap (λ n. inserts_at d n (path_count_of l) ps) there
+
+pub stand_there : (r : Rules) (plans below above : List LayerPlan) (l : LayerPlan) → completed_of r plans ≡ below ++ l ∷ above
+    → l.inserts ≡ inserts_at r.degrees (path_counts_of below) (path_count_of l) (preheats_in r plans)
+stand_there r plans below above l e = heated-stands r.degrees 0 (preheats_in r plans) (with_leads r.speed origin plans) below above l e ∙ ap (λ n. inserts_at r.degrees n (path_count_of l) (preheats_in r plans)) (omega arith)

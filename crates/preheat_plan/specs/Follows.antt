@@ -23,15 +23,20 @@ pub record Follows (r : Rules) (ls : List LayerPlanValue) (n : ℕ) (h : Held) :
   pub end : h.end ≡ end_of_layers origin ls
   pub current : h.current ≡ extruder_after r.first (whole_of (with_leads r.speed origin ls))
   pub size : length h.left ≡ 8
-  pub left : (e : ℕ) → e < 8 → slice_index_or h.left e None ≡ timed_left (whole_of (with_leads r.speed origin ls)) (left_of e (whole_of (with_leads r.speed origin ls)))
+  pub left : (e : ℕ) → e < 8
+      → slice_index_or h.left e None
+      ≡ timed_left (whole_of (with_leads r.speed origin ls)) (left_of e (whole_of (with_leads r.speed origin ls)))
 
 -- The laws of windows: one that holds nothing follows no plans; with the next plan taken it follows one plan
 -- more, holds one plan more, and no extruder is named that wasn't before; with the oldest let go it follows
 -- the same plans; and of each plan one is completed.
 pub record WindowLaws : Type 0 where
   pub start : (r : Rules) → Follows r [] 0 (nothing_held r.first origin)
-  pub take : (r : Rules) (ls : List LayerPlanValue) (l : LayerPlanValue) (h : Held) → All IsFresh (ls ++ l ∷ []) → Follows r ls (length ls - r.window) h → Follows r (ls ++ l ∷ []) (length ls - r.window) (taken r l h)
-  pub let_go : (r : Rules) (ls : List LayerPlanValue) (n : ℕ) (p : LayerPlanValue) (others : List LayerPlanValue) (h : Held) → h.plans ≡ p ∷ others → Follows r ls n h → Follows r ls (n + 1) (let_go p others h)
+  pub take : (r : Rules) (ls : List LayerPlanValue) (l : LayerPlanValue) (h : Held) → All IsFresh (ls ++ l ∷ [])
+      → Follows r ls (length ls - r.window) h → Follows r (ls ++ l ∷ []) (length ls - r.window) (taken r l h)
+  pub let_go : (r : Rules) (ls : List LayerPlanValue) (n : ℕ) (p : LayerPlanValue) (others : List LayerPlanValue)
+      (h : Held) → h.plans ≡ p ∷ others → Follows r ls n h → Follows r ls (n + 1) (let_go p others h)
   pub longer : (r : Rules) (l : LayerPlanValue) (h : Held) → length (taken r l h).plans ≡ length h.plans + 1
-  pub known : (r : Rules) (m : ℕ) (l : LayerPlanValue) (h : Held) → All (λ x. x.extruder < m) l.plans → All (KnowsItsExtruders m) h.plans → All (KnowsItsExtruders m) (taken r l h).plans
+  pub known : (r : Rules) (m : ℕ) (l : LayerPlanValue) (h : Held) → All (λ x. x.extruder < m) l.plans
+      → All (KnowsItsExtruders m) h.plans → All (KnowsItsExtruders m) (taken r l h).plans
   pub count : (r : Rules) (ls : List LayerPlanValue) → length (completed_of r ls) ≡ length ls

@@ -42,7 +42,8 @@ with_insert_at n e degrees l =
 abbrev pub put_at : ℕ → ℕ → ℕ → List LayerPlanValue → List LayerPlanValue
 put_at n e degrees [] = []
 put_at n e degrees (l ∷ ls) =
-    cond (nat_lt n (path_count_of l)) (with_insert_at n e degrees l ∷ ls) (l ∷ put_at (n - path_count_of l) e degrees ls)
+    cond (nat_lt n (path_count_of l)) (with_insert_at n e degrees l ∷ ls)
+    (l ∷ put_at (n - path_count_of l) e degrees ls)
 
 -- where e was left
 abbrev pub left_of_held : ℕ → Held → Option Left
@@ -73,7 +74,8 @@ placed_in need ls left front start = latest (covers_in need ls left front start)
 -- the place of a preheat of e for a switch at the next path
 abbrev pub place_in : Rules → ℕ → Held → ℕ
 place_in r e h =
-    placed_in (r.need e) h.plans (left_time h.base_time h.plans (front_in e h) (left_of_held e h)) (front_in e h) (h.next - h.base)
+    placed_in (r.need e) h.plans
+    (left_time h.base_time h.plans (front_in e h) (left_of_held e h)) (front_in e h) (h.next - h.base)
 
 -- a switch to e puts its preheat into the held plans
 abbrev pub heated : Rules → ℕ → Held → Held

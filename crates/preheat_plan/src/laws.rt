@@ -4,9 +4,9 @@ ghost use Rattle.std.specs.Prelude.{◌≡◌, ◌+◌, ◌≤◌, ◌<◌, ◌=
 ghost use Rattle.std.specs.List.{All, count_by, filter, sum_by};
 ghost use Rattle.plan_types.specs.declared.plans.ExtruderPlan.{ExtruderPlan};
 ghost use Rattle.plan_types.specs.Plans.{LayerPlanValue, EachOnce};
-ghost use Rattle.plan_types.specs.Steps.{Step};
+ghost use Rattle.plan_types.specs.Steps.{Step, path_count_of, path_counts_of};
 ghost use Rattle.preheat_plan.specs.Past.{Rules};
-ghost use Rattle.preheat_plan.specs.Completed.{completed_of, IsFresh};
+ghost use Rattle.preheat_plan.specs.Completed.{inserts_at, completed_of, IsFresh};
 ghost use Rattle.preheat_plan.specs.Follows.{WindowLaws};
 ghost use Rattle.preheat_plan.specs.Switches.{steps_of, preheats_in, is_switch, is_for, HasOnePreheat};
 
@@ -18,7 +18,7 @@ pub fn rests_on_a_window()
 
 /// Each switch of the whole plan has exactly one preheat: at the latest boundary of its window from which the
 /// times up to the switch add up to what its extruder needs there, else at the window's front. No other path
-/// has one; and each preheat stands in the completed plan of one layer.
+/// has one. In the completed plans each preheat stands once: in the plan of the layer at whose boundary it is.
 pub fn each_switch_is_preheated()
     ensures switch { (r : Rules) (plans : List LayerPlanValue) (past rest : List Step) (s : Step)
         → steps_of r plans ≡ past ++ s ∷ rest → is_switch r past s ≡ true
@@ -28,6 +28,9 @@ pub fn each_switch_is_preheated()
         → filter (is_for (length past)) (preheats_in r plans) ≡ [] }
     ensures all { (r : Rules) (plans : List LayerPlanValue) → sum_by
         (λ l. length l.inserts) (completed_of r plans) ≡ length (preheats_in r plans) }
+    ensures stands { (r : Rules) (plans below above : List LayerPlanValue) (l : LayerPlanValue)
+        → completed_of r plans ≡ below ++ l ∷ above → l.inserts
+        ≡ inserts_at r.degrees (path_counts_of below) (path_count_of l) (preheats_in r plans) }
 {}
 
 /// In no plan are there more than two preheats of an extruder, nor more than sixteen, whatever the window.

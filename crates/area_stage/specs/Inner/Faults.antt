@@ -18,7 +18,8 @@ named_result_of mesh layer (Err fault) = Err (area_fault_of mesh layer fault)
 
 -- the fault is what the definition answers; want of memory is free
 abbrev pub IsAreaFault : {A : Type 0} → Result A Tangle → AreaFault → Type 0
-IsAreaFault answer (area.TooTangled mesh layer count) = answer ≡ Err (record { mesh = mesh; layer = layer; count = count })
+IsAreaFault answer (area.TooTangled mesh layer count) =
+    answer ≡ Err (record { mesh = mesh; layer = layer; count = count })
 IsAreaFault answer area.NoMemory = Unit {0}
 IsAreaFault answer fault = ⊥
 

@@ -27,7 +27,9 @@ pub record Gathered (n k m : ℕ) (covers : List ℕ) (seen : List Event) : Type
 module _ {N : Type 0} where
   -- it may begin to work for this planner
   abbrev pub IsReady : Lock → N → Seated (RingName N) Event → Type 0
-  IsReady lock planner s = (s.lock ≡ lock.id) × (s.turn ≡ false) × IsSomeAnd s.name (λ n. (n.planner ≡ planner) × (s.number < n.workers)) × (stage s.number s.seen ≡ resting)
+  IsReady lock planner s =
+      (s.lock ≡ lock.id) × (s.turn ≡ false) × IsSomeAnd s.name (λ n. (n.planner ≡ planner) × (s.number < n.workers))
+      × (stage s.number s.seen ≡ resting)
 
   -- its worker ended, and nothing else about it changed
   abbrev pub HasWorked : Seated (RingName N) Event → Seated (RingName N) Event → Type 0
@@ -43,8 +45,26 @@ module _ {N : Type 0} where
 module _ {A E : Type 0} where
   -- the root's seat, new
   abbrev pub root_seat : Lock → Option A → Seated A E
-  root_seat lock name = record { lock = lock.id; name = name; number = 0; covers = 0 ∷ []; seen = []; turn = false; root = true; made = 1 }
+  root_seat lock name = record {
+    lock = lock.id;
+    name = name;
+    number = 0;
+    covers = 0 ∷ [];
+    seen = [];
+    turn = false;
+    root = true;
+    made = 1;
+  }
 
   -- the seat of this number that a root makes
   abbrev pub made_seat : Seated A E → ℕ → Seated A E
-  made_seat r n = record { lock = r.lock; name = r.name; number = n; covers = n ∷ []; seen = r.seen; turn = false; root = false; made = 0 }
+  made_seat r n = record {
+    lock = r.lock;
+    name = r.name;
+    number = n;
+    covers = n ∷ [];
+    seen = r.seen;
+    turn = false;
+    root = false;
+    made = 0;
+  }

@@ -4,7 +4,6 @@ use Rattle.std.specs.List.{All}
 use Rattle.outside.specs.declared.pens.Pen.{Pen}
 use Rattle.outside.specs.Output.{Output}
 use Rattle.outside.specs.Pens.{Wrote}
-use Rattle.slice_base.specs.Shapes.{Bytes}
 use Rattle.plan_types.specs.Jobs.{JobValue}
 use Rattle.plan_types.specs.Plans.{LayerPlanValue}
 use Rattle.gcode_write.specs.declared.progress.Progress.{Progress}
@@ -22,14 +21,10 @@ pub record IsBuffer (job : JobValue) (window : WindowValue) (layers : ℕ) : Typ
   pub few : window.taken ≤ 40000
 
 -- the oldest of the held plans was written
-pub record WroteOldest {S : Type 0} (output : S → Output) (job : JobValue) (old new : Held) (progress after : Progress) (pen pen_after : Pen S) : Type 0 where
+pub record WroteOldest {S : Type 0} (output : S → Output) (job : JobValue) (old new : Held) (progress after : Progress)
+    (pen pen_after : Pen S) : Type 0 where
   pub oldest : LayerPlanValue
   pub parts : old.plans ≡ oldest ∷ new.plans
   pub rest : new ≡ let_go oldest new.plans old
   pub wrote : Wrote output pen (layer_text_of job.settings.extruders progress oldest) pen_after
   pub stands : after ≡ after_layer job.settings.extruders progress oldest
-
--- something was written, or, where a put had failed, nothing
-pub record WroteSome {S : Type 0} (output : S → Output) (pen pen_after : Pen S) : Type 0 where
-  pub text : Bytes
-  pub wrote : Wrote output pen text pen_after

@@ -10,7 +10,8 @@ use Rattle.preheat_plan.specs.Held.{Held}
 use Rattle.preheat_plan.specs.Follows.{timed_left}
 
 -- what is remembered after paths of which `old` are before the held plans, whose form without preheats is `bare`
-pub record IsAt (r : Rules) (old more : List Step) (bare : List LayerPlanValue) (ps : List Preheat) (h : Held) : Type 0 where
+pub record IsAt (r : Rules) (old more : List Step) (bare : List LayerPlanValue) (ps : List Preheat) (h : Held)
+    : Type 0 where
   pub base : h.base ≡ length old
   pub base_time : h.base_time ≡ sum_by (λ s. s.time) old
   pub plans : h.plans ≡ heated_from r.degrees h.base ps bare

@@ -1,6 +1,6 @@
 use Rattle.std.proofs.Common.{◌∙◌, ap, Err}
 use Rattle.std.proofs.lemmas.Result.{err_from_is_err_and}
-use Rattle.area_stage.proofs.JobSteps.{gives-job, gives-no_job, result-or}
+use Rattle.area_stage.proofs.JobSteps.{gives-job, gives-no_job, result-or, no_layers-are, too_many-are, fits-some, fits-few}
 use Rattle.area_stage.proofs.stage.areas.Goals as goal
 
 pub returns-in_err-count-clause-one : goal.returns-in_err-count-clause-one
@@ -12,3 +12,21 @@ returns-in_err-count-clause-one c =
 pub returns-clause-one : goal.returns-clause-one
 returns-clause-one c =
     result-or c.args.settings c.args.meshes.now c.job_up_to.result (c.one_areas.ensures c.args.settings c.args.meshes.now) (gives-job c.args.settings c.args.meshes.now c.in_ok-count.count c.job_up_to.result c.in_ok-count.ensures.fits c.job_up_to.ensures)
+
+pub returns-in_err-count-clause-none : goal.returns-in_err-count-clause-none
+returns-in_err-count-clause-none c =
+    let p = err_from_is_err_and c.from_residual.result c.from_residual.ensures.1 in
+    let e = p.1 ∙ ap Err p.2 in
+    no_layers-are c.args.settings c.args.meshes.now c.from_residual.result c.in_err-count.field-0.0 c.one_layer_count.ensures e c.in_err-count.ensures.refused
+
+pub returns-in_err-count-clause-too_many : goal.returns-in_err-count-clause-too_many
+returns-in_err-count-clause-too_many c =
+    let p = err_from_is_err_and c.from_residual.result c.from_residual.ensures.1 in
+    let e = p.1 ∙ ap Err p.2 in
+    too_many-are c.args.settings c.args.meshes.now c.from_residual.result c.in_err-count.field-0.0 c.one_layer_count.ensures e c.in_err-count.ensures.refused
+
+pub returns-clause-none : goal.returns-clause-none
+returns-clause-none c = fits-some c.args.settings c.args.meshes.now c.in_ok-count.count c.job_up_to.result c.one_layer_count.ensures c.in_ok-count.ensures.fits
+
+pub returns-clause-too_many : goal.returns-clause-too_many
+returns-clause-too_many c = fits-few c.args.settings c.args.meshes.now c.in_ok-count.count c.job_up_to.result c.one_layer_count.ensures c.in_ok-count.ensures.fits

@@ -92,5 +92,5 @@ returns g c =
     let m = length c.args.settings.meshes in
     let all = meshes-long sets (length c.args.meshes.now) m c.requires.as_many (walls-as_many c.args.settings c.args.meshes.now c.args.count sets w.sets) in
     let is = parted-are c.in_ok-parted.parted.columns sets (length c.args.meshes.now) m c.in_ok-parted.ensures.columns c.requires.as_many all in
-    job-is c.args.settings c.args.meshes.now c.args.count sets c.in_ok-walls.walls.outlines c.in_ok-skirt.skirt c.items.result.now c.in_ok-splits.splits c.in_ok-parted.parted.walls c.in_ok-walls.walls.dropped c.in_ok-joined_job.field-0
-    w.sets (w.outlines c.requires.layered) c.in_ok-skirt.ensures.answer (c.items.ensures ∙ is) c.in_ok-splits.ensures c.in_ok-parted.ensures.walls w.dropped c.in_ok-joined_job.ensures
+    job-is c.args.settings c.args.meshes.now c.args.count sets c.in_ok-walls.walls.outlines c.in_ok-skirt.skirt c.items.result.now c.in_ok-splits.splits c.in_ok-parted.parted.walls c.in_ok-walls.walls.open_outlines c.in_ok-joined_job.field-0
+    w.sets (w.outlines c.requires.layered) c.in_ok-skirt.ensures.answer (c.items.ensures ∙ is) c.in_ok-splits.ensures c.in_ok-parted.ensures.walls w.open_outlines c.in_ok-joined_job.ensures

@@ -12,7 +12,7 @@ use Rattle.area_stage.specs.Inner.Faults.{IsAreaFault}
 use Rattle.area_stage.specs.Outlines.{cleaned_of}
 use Rattle.area_stage.specs.Walls.{mesh_walls_of}
 use Rattle.area_stage.proofs.Naming.{area-up_to}
-use Rattle.area_stage.proofs.WallSteps.{cleaned-step, dropped-step, mesh-walls-at, layer-walls-are, first-outlines, all-dropped}
+use Rattle.area_stage.proofs.WallSteps.{cleaned-step, open-step, mesh-walls-at, layer-walls-are, first-outlines, all-open}
 use Rattle.area_stage.proofs.walling.layer_walls.Goals as goal
 
 pub loop-i-init : goal.loop-i-init
@@ -63,7 +63,7 @@ loop-i-preserved c =
     record {
       cleaned = cleaned-step z meshes l.i mesh l.outlines _ next.outline c.loop-i-test.true c.index-meshes-i.is c.in_ok-next.ensures.own c.in_ok-push.ensures.ok l.invariant.cleaned;
       so_far = up_to-ok (mesh_walls_of s meshes c.args.layer) l.i l.sets _ next.set l.invariant.so_far (sym at ∙ c.in_ok-next.ensures.answer before others) c.in_ok-push-2.ensures.ok;
-      counted = dropped-step z meshes l.i mesh l.dropped _ next.dropped c.loop-i-test.true c.index-meshes-i.is c.in_ok-next.ensures.dropped refl l.invariant.counted;
+      counted = open-step z meshes l.i mesh l.open_outlines _ next.open_outlines c.loop-i-test.true c.index-meshes-i.is c.in_ok-next.ensures.open_outlines refl l.invariant.counted;
       few = omega (arith, l.invariant.few);
       seen = omega (arith, c.loop-i-test.true, c.requires.as_many, c.mesh_settings-m.ensures.few);
     }
@@ -78,6 +78,6 @@ returns c =
     record {
       sets = sym (layer-walls-are s meshes c.args.layer l.i end) ∙ l.invariant.so_far;
       outlines = λ first. first-outlines s meshes c.args.layer z l.i l.outlines c.first_outlines.result end c.height-at.ensures first l.invariant.cleaned c.first_outlines.ensures;
-      dropped = all-dropped s meshes c.args.layer z l.i l.dropped end c.height-at.ensures l.invariant.counted;
+      open_outlines = all-open s meshes c.args.layer z l.i l.open_outlines end c.height-at.ensures l.invariant.counted;
       few = omega (arith, l.invariant.few, l.invariant.seen);
     }

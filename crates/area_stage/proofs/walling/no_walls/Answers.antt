@@ -7,6 +7,6 @@ pub returns : goal.returns
 returns c = λ s meshes. record {
   sets = rw c.new.ensures (up_to-none (layer_walls_of s meshes));
   outlines = λ some. absurd (omega (arith, some));
-  dropped = refl;
+  open_outlines = refl;
   few = omega arith;
 }

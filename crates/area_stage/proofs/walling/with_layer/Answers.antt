@@ -19,6 +19,6 @@ returns c = λ s meshes n w l.
       sets = up_to-ok (layer_walls_of s meshes) n c.args.walls.sets c.push.new.self c.args.layer.sets w.sets l.sets c.in_ok-push.ensures.ok;
       outlines = λ some. kept-is (each_ok (cleaned_of (pos (plane_of s 0))) meshes) n c.args.walls.outlines c.args.layer.outlines c.kept_outlines.result
           (counted c.len-count.result n c.args.walls.outlines c.args.layer.outlines c.kept_outlines.result k c.kept_outlines.ensures) w.outlines l.outlines;
-      dropped = open-more s meshes n c.args.walls.dropped c.args.layer.dropped w.dropped l.dropped;
+      open_outlines = open-more s meshes n c.args.walls.open_outlines c.args.layer.open_outlines w.open_outlines l.open_outlines;
       few = omega (arith, w.few, l.few);
     }

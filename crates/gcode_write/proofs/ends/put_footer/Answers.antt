@@ -1,6 +1,7 @@
 use Rattle.std.proofs.Common.{◌++◌, ap}
 use Rattle.gcode_text.specs.Lines.{blow_of}
-use Rattle.gcode_write.specs.Ends.{offs_of, bed_off_of, all_extruders}
+use Rattle.plan_types.specs.Orders.{all_extruders}
+use Rattle.gcode_write.specs.Ends.{offs_of, bed_off_of}
 use Rattle.outside.specs.Pens.{Wrote}
 use Rattle.gcode_write.proofs.ends.put_footer.Goals as goal
 

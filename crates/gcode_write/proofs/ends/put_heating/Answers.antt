@@ -1,6 +1,7 @@
 use Rattle.std.proofs.Common.{◌++◌, ◌∙◌, true, false, ap}
 use Rattle.gcode_text.specs.Lines.{heat_of}
-use Rattle.gcode_write.specs.Ends.{bed_heating_of, standbys_of, print_degrees_of, all_extruders}
+use Rattle.plan_types.specs.Orders.{all_extruders}
+use Rattle.gcode_write.specs.Ends.{bed_heating_of, standbys_of, print_degrees_of}
 use Rattle.outside.specs.Pens.{Wrote}
 use Rattle.gcode_write.proofs.ends.put_heating.Goals as goal
 

@@ -2,7 +2,7 @@ use Rattle.std.proofs.Common.{◌≡◌, ◌+◌, ◌-◌, ◌≤◌, ℕ, lengt
 use Rattle.std.specs.List.{All}
 use Rattle.preheat_plan.specs.Completed.{KnowsItsExtruders}
 use Rattle.plan_buffer.specs.Accepted.{Past, HasWritten}
-use Rattle.plan_buffer.specs.Inner.Sound.{WroteSome}
+use Rattle.plan_buffer.specs.Streams.{WroteSome}
 use Rattle.plan_buffer.proofs.writing.write_all.Given as goal
 
 abbrev pub invariant-held : goal.invariant-held
