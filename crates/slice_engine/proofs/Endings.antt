@@ -5,6 +5,7 @@ use Rattle.std.specs.List.{All}
 use Rattle.std.proofs.lemmas.List.Elements.{All-tail}
 use Rattle.slice_base.specs.Causes.{Rose, counted}
 use Rattle.slice_base.specs.Shapes.{Bytes}
+use Rattle.outside.specs.Files.{Files}
 use Rattle.outside.specs.Store.{Store}
 use Rattle.outside.specs.Output.{Output}
 use Rattle.answers.specs.declared.refusal.Refusal.{Refusal}
@@ -20,7 +21,7 @@ use Rattle.ring_core.specs.declared.event.Event.{Event}
 use Rattle.slice_engine.specs.declared.done.Done.{Done}
 use Rattle.slice_engine.specs.declared.writing.Stop.{Stop}
 use Rattle.slice_engine.specs.declared.writing.Stop.TheVariants.{Memory, Write}
-use Rattle.slice_engine.specs.Jobs.{Files, CommandGives, SamplePlate, word_refusal}
+use Rattle.slice_engine.specs.Jobs.{CommandGives, SamplePlate, word_refusal}
 use Rattle.slice_engine.specs.Reads.{HasFailedRead, read_faults}
 use Rattle.slice_engine.specs.Inner.Answered.{refusal_in}
 use Rattle.slice_engine.specs.Answers.{SaysEnd, Tells, output_of, write_faults}
@@ -62,7 +63,7 @@ checked_writes (Err r) task shelf shelf_after o says = refl
 -- ---- words at fault
 
 -- what plates and samples give is told by no word
-gives_plate : (command : Command) (files : Files) (r : Refusal) → CommandGives (Ok command) files (Err r) → OfPlate r
+gives_plate : (command : Command) (files : Option Files) (r : Refusal) → CommandGives (Ok command) files (Err r) → OfPlate r
 gives_plate (Slice task) files r g = of_plate (PlateGives task.items files) r g
 gives_plate (Serial task) files r g = of_plate (PlateGives task.items files) r g
 gives_plate (Check task) files r g = of_plate (PlateGives task.items files) r g
@@ -71,21 +72,21 @@ gives_plate (Gen number name) files r g = of_plate (SamplePlate number) r g
 same_refusal : (r s : Refusal) → ◌≡◌ {A = Result JobValue Refusal} (Err r) (Err s) → r ≡ s
 same_refusal r s e = cc
 
-gives_bad_word : (command : Result Command WordFault) (files : Files) (n : ℕ) → CommandGives command files (Err (refusal.BadWord n)) → command ≡ Err (fault.BadWord n)
+gives_bad_word : (command : Result Command WordFault) (files : Option Files) (n : ℕ) → CommandGives command files (Err (refusal.BadWord n)) → command ≡ Err (fault.BadWord n)
 gives_bad_word (Ok command) files n g = absurd (gives_plate command files (refusal.BadWord n) g)
 gives_bad_word (Err (fault.BadWord m)) files n g = let e = same_refusal (refusal.BadWord n) (refusal.BadWord m) g in cc
 gives_bad_word (Err fault.NoInput) files n g = absurd (cc g)
 gives_bad_word (Err fault.NoOutput) files n g = absurd (cc g)
 gives_bad_word (Err fault.NoMemory) files n g = absurd (cc g)
 
-gives_no_input : (command : Result Command WordFault) (files : Files) → CommandGives command files (Err refusal.NoInput) → command ≡ Err fault.NoInput
+gives_no_input : (command : Result Command WordFault) (files : Option Files) → CommandGives command files (Err refusal.NoInput) → command ≡ Err fault.NoInput
 gives_no_input (Ok command) files g = absurd (gives_plate command files refusal.NoInput g)
 gives_no_input (Err (fault.BadWord m)) files g = absurd (cc g)
 gives_no_input (Err fault.NoInput) files g = refl
 gives_no_input (Err fault.NoOutput) files g = absurd (cc g)
 gives_no_input (Err fault.NoMemory) files g = absurd (cc g)
 
-gives_no_output : (command : Result Command WordFault) (files : Files) → CommandGives command files (Err refusal.NoOutput) → command ≡ Err fault.NoOutput
+gives_no_output : (command : Result Command WordFault) (files : Option Files) → CommandGives command files (Err refusal.NoOutput) → command ≡ Err fault.NoOutput
 gives_no_output (Ok command) files g = absurd (gives_plate command files refusal.NoOutput g)
 gives_no_output (Err (fault.BadWord m)) files g = absurd (cc g)
 gives_no_output (Err fault.NoInput) files g = absurd (cc g)
@@ -154,16 +155,16 @@ failed_rose (Err f) name before after failed = absurd failed
 no_job : (j : JobValue) (r : Refusal) → ◌≡◌ {A = Result JobValue Refusal} (Ok j) (Err r) → ⊥
 no_job j r e = cc
 
-module _ (command : Result Command WordFault) (files : Files) (one : (a b : Result JobValue Refusal) → CommandGives command files a → CommandGives command files b → a ≡ b) where
+module _ (command : Result Command WordFault) (files : Option Files) (one : (a b : Result JobValue Refusal) → CommandGives command files a → CommandGives command files b → a ≡ b) where
   -- where a refusal is defined and no read failed, the run ended with it, unless memory ran out
   pub ended_refused : (r : Refusal) (ended : Result Done Refusal) (shelf shelf_after : Store) (o p : Output) → shelf.files ≡ files → CommandGives command files (Err r)
       → ((name : List ℕ) → HasFailedRead command name shelf shelf_after → ⊥) → SaysEnd ended command shelf shelf_after o p → (ended ≡ Err r) ⊎ (ended ≡ Err refusal.NoMemory)
-  ended_refused r (Ok done) shelf shelf_after o p told g quiet says = absurd (no_job says.job r (one (Ok says.job) (Err r) (subst (λ (f : Files). CommandGives command f (Ok says.job)) told says.defined) g))
-  ended_refused r (Err refusal.WriteFault) shelf shelf_after o p told g quiet says = absurd (no_job says.job r (one (Ok says.job) (Err r) (subst (λ (f : Files). CommandGives command f (Ok says.job)) told says.defined) g))
+  ended_refused r (Ok done) shelf shelf_after o p told g quiet says = absurd (no_job says.job r (one (Ok says.job) (Err r) (subst (λ (f : Option Files). CommandGives command f (Ok says.job)) told says.defined) g))
+  ended_refused r (Err refusal.WriteFault) shelf shelf_after o p told g quiet says = absurd (no_job says.job r (one (Ok says.job) (Err r) (subst (λ (f : Option Files). CommandGives command f (Ok says.job)) told says.defined) g))
   ended_refused r (Err refusal.NoMemory) shelf shelf_after o p told g quiet says = inr refl
   ended_refused r (Err (refusal.ReadFault name)) shelf shelf_after o p told g quiet says = absurd (quiet name says.says)
   ended_refused r (Err q) shelf shelf_after o p told g quiet says =
-      inl (ap Err (same_refusal q r (one (Err q) (Err r) (subst (λ (f : Files). CommandGives command f (Err q)) told says.says) g)))
+      inl (ap Err (same_refusal q r (one (Err q) (Err r) (subst (λ (f : Option Files). CommandGives command f (Err q)) told says.says) g)))
 
 told_case : (asked : Bool) (journal : List Event) (r : Refusal) (ended : Result Done Refusal) (answer : Option Refusal) (before after : Output) → (ended ≡ Err r) ⊎ (ended ≡ Err refusal.NoMemory) → Tells ended asked journal answer before after
     → (answer ≡ Some r) ⊎ (answer ≡ Some refusal.NoMemory)
@@ -171,7 +172,7 @@ told_case asked journal r ended answer before after (inl e) tells = inl (tells_r
 told_case asked journal r ended answer before after (inr e) tells = inr (tells_refusal asked journal ended refusal.NoMemory answer before after e tells)
 
 -- and that is the answer
-pub refused_told : (asked : Bool) (journal : List Event) (command : Result Command WordFault) (files : Files) (r : Refusal) (ended : Result Done Refusal) (answer : Option Refusal) (shelf shelf_after : Store) (o p before after : Output)
+pub refused_told : (asked : Bool) (journal : List Event) (command : Result Command WordFault) (files : Option Files) (r : Refusal) (ended : Result Done Refusal) (answer : Option Refusal) (shelf shelf_after : Store) (o p before after : Output)
     → ((a b : Result JobValue Refusal) → CommandGives command files a → CommandGives command files b → a ≡ b) → shelf.files ≡ files → CommandGives command files (Err r)
     → (Rose shelf.faults shelf_after.faults → ⊥) → SaysEnd ended command shelf shelf_after o p → Tells ended asked journal answer before after → (answer ≡ Some r) ⊎ (answer ≡ Some refusal.NoMemory)
 refused_told asked journal command files r ended answer shelf shelf_after o p before after one told g quiet says tells =

@@ -3,6 +3,7 @@ pub mod Samples
 pub mod Streams
 pub mod Plates
 pub mod UseCounts
+pub mod Spendings
 pub mod Switching
 pub mod Endings
 pub mod Rings

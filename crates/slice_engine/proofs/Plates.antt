@@ -2,6 +2,7 @@
 use Rattle.std.proofs.Common.{ℕ, ◌≡◌, List, Some, inl, inr, Result, Ok, Err, sym, ap, subst, ◌∙◌}
 use Rattle.slice_base.specs.declared.points.Tri.{Tri}
 use Rattle.settings_core.specs.Values.{SettingsValue}
+use Rattle.outside.specs.Files.{Files}
 use Rattle.answers.specs.declared.refusal.Refusal.{Refusal}
 use Rattle.answers.specs.declared.refusal.Refusal.TheVariants as refusal
 use Rattle.cli_words.specs.declared.command.Command.{Command}
@@ -73,7 +74,7 @@ module _ (Defines : Result PlateValue PlateFault → Type 0) (plates : HasOnePla
       ap Err (m.named ∙ ap area_refusal (same_cause m.cause n.cause (jobs m.plate.settings m.plate.meshes (Err m.cause) (Err n.cause) m.areas (of_same m.plate n.plate (Err n.cause) same n.areas))) ∙ sym n.named)
 
 -- a command, or words at fault, and told files define one job, or one refusal, at most
-pub one_command : (command : Result Command WordFault) (files : List (List ℕ × List ℕ)) (a b : Result JobValue Refusal)
+pub one_command : (command : Result Command WordFault) (files : Files) (a b : Result JobValue Refusal)
     → ((items : List Item) → HasOnePlate (PlateGives items (Some files))) → ((number : ℕ) → HasOnePlate (SamplePlate number)) → HaveOneAreas
     → CommandGives command (Some files) a → CommandGives command (Some files) b → a ≡ b
 one_command (Ok (Slice task)) files a b plates samples jobs g h = one_of_plate (PlateGives task.items (Some files)) (plates task.items) jobs a b g h
@@ -103,7 +104,7 @@ of_fault (fault.UnknownExtruder mesh) = tt
 of_fault (fault.BadStl mesh line) = tt
 of_fault (fault.TooManyTriangles mesh n) = tt
 of_fault (fault.NoTriangles mesh) = tt
-of_fault (fault.OutsideVolume mesh n) = tt
+of_fault (fault.OutsideVolume mesh n e) = tt
 of_fault fault.NoMemory = tt
 
 of_cause : (f : AreaFault) → OfPlate (area_refusal f)

@@ -16,12 +16,14 @@ use Rattle.plan_buffer.specs.Streams.{Broken, Streamed}
 use Rattle.plan_buffer.specs.Accepted.{Past, HasAccepted, Finished, BrokeOff}
 use Rattle.slice_engine.specs.declared.writing.Stop.{Stop}
 use Rattle.slice_engine.specs.declared.writing.Stop.TheVariants.{Memory, Write}
-use Rattle.slice_engine.specs.Files.{job_file, job_text, BrokenOff, CutShort}
+use Rattle.print_totals.specs.Spending.{SpentValue, HasSpent}
+use Rattle.slice_engine.specs.Files.{plans_of, job_file, job_text, BrokenOff, CutShort}
 use Rattle.slice_engine.specs.Journals.{IsFullRun, RanToFailure, RanOutOfMemory, CutShortWide}
 use Rattle.slice_engine.specs.Inner.Feeding.{past_of, Flushed, fed_by}
 use Rattle.slice_engine.specs.Inner.Ringing.{FeederValue, HasFed}
 use Rattle.slice_engine.specs.Inner.Slicing.{WroteWide}
 use Rattle.slice_engine.proofs.Streams.{RestsOnPlans, WritesFronts, streamed_at, front_of_file, holds, broken_off, broke_off_last, cut_short, file_of_all}
+use Rattle.slice_engine.proofs.Spendings.{spent_all}
 
 -- the law of ring_core that is used here, as its public function states it
 abbrev pub WholeRuns : Type 0
@@ -82,7 +84,7 @@ short_case output f false journal is rests fronts fed s exact =
 
 -- where a feeder is, once k layers were fed
 abbrev pub IsAt : {S : Type 0} → (S → Output) → FeederValue S → ℕ → Type 0
-IsAt output f k = k ≤ length f.job.layers → (f.buffer.pen.failed ≡ false) × HasAccepted output f.buffer (past_of f.job f.name (output f.before) k)
+IsAt output f k = k ≤ length f.job.layers → (f.buffer.pen.failed ≡ false) × HasAccepted output f.buffer (past_of f.job f.name (output f.before) k) × HasSpent f.job (take k (plans_of f.job)) f.spent
 
 short_at : {S : Type 0} (output : S → Output) (f : FeederValue S) (k : ℕ) → RestsOnPlans → f.buffer.job ≡ f.job → k ≤ length f.job.layers → IsAt output f k → CutShort f.name f.job k (output f.before) (output f.buffer.pen.sink)
 short_at output f k rests same few at =
@@ -184,3 +186,20 @@ unmade_wide output f job name before workers journal sink rests job_is name_is b
     let h3 : CutShortWide name job [] (output before) (output f.buffer.pen.sink) = subst (λ (b : _). CutShortWide name job [] (output b) (output f.buffer.pen.sink)) before_is h2 in
     let h4 : CutShortWide name job [] (output before) (output sink) = subst (λ (s : _). CutShortWide name job [] (output before) (output s)) (sym sink_is) h3 in
     (record { run = subst (λ (es : List Event). IsRun (length job.layers) workers es) (sym journal_is) tt; cause = inl journal_is }, subst (λ (es : List Event). CutShortWide name job es (output before) (output sink)) (sym journal_is) h4)
+
+not_ok : (stop : Stop) → ◌≡◌ {A = Result (Unit {0}) Stop} (Err stop) (Ok tt) → ⊥
+not_ok stop e = cc
+
+-- where the file was written, the sums are those of all plans
+ended_spent : {S : Type 0} (output : S → Output) (f : FeederValue S) (n : ℕ) (halted : Option Cause) (wrote : Result (Unit {0}) Stop) → n ≡ length f.job.layers → (halted ≡ None → IsAt output f n)
+    → ((stop : Stop) → fed_by halted ≡ Err stop → wrote ≡ Err stop) → wrote ≡ Ok tt → HasSpent f.job (plans_of f.job) f.spent
+ended_spent output f n None wrote all whole stopped ok = spent_all f.job n f.spent all (whole refl (omega (arith, all))).2
+ended_spent output f n (Some cause.Memory) wrote all whole stopped ok = absurd (not_ok Memory (sym (stopped Memory refl) ∙ ok))
+ended_spent output f n (Some (cause.Write k)) wrote all whole stopped ok = absurd (not_ok Write (sym (stopped Write refl) ∙ ok))
+
+-- the same, by the names of the parts
+pub spent_wide : {S : Type 0} (output : S → Output) (f : FeederValue S) (job : JobValue) (n : ℕ) (halted : Option Cause) (wrote : Result (Unit {0}) Stop) (spent : SpentValue) → f.job ≡ job → spent ≡ f.spent → n ≡ length job.layers
+    → (halted ≡ None → IsAt output f n) → ((stop : Stop) → fed_by halted ≡ Err stop → wrote ≡ Err stop) → wrote ≡ Ok tt → HasSpent job (plans_of job) spent
+spent_wide output f job n halted wrote spent job_is spent_is all whole stopped ok =
+    let h = ended_spent output f n halted wrote (all ∙ ap (λ (j : JobValue). length j.layers) (sym job_is)) whole stopped ok in
+    subst (λ (s : SpentValue). HasSpent job (plans_of job) s) (sym spent_is) (subst (λ (j : JobValue). HasSpent j (plans_of j) f.spent) job_is h)

@@ -10,13 +10,13 @@ use Rattle.plan_types.specs.Jobs.{JobValue}
 use Rattle.ring_core.specs.declared.event.Event.{Event}
 use Rattle.slice_engine.specs.declared.done.Done.{Done}
 use Rattle.slice_engine.specs.declared.done.Done.TheVariants.{Sliced, Checked, Drawn}
-use Rattle.slice_engine.specs.Totals.{totals_of, RunTotals}
+use Rattle.slice_engine.specs.Totals.{command_totals, RunTotals}
 use Rattle.slice_engine.specs.Done.{IsDone, kept_totals}
 use Rattle.slice_engine.specs.Inner.Answered.{totals_in}
 use Rattle.slice_engine.specs.Answers.{SaysEnd, Tells}
 
--- what a command did has the totals of its job
-done_totals : (command : Result Command WordFault) (job : JobValue) (done : Done) → IsDone command job done → totals_in (Ok done) ≡ totals_of job
+-- what a command did has the totals that it tells of its job
+done_totals : (command : Result Command WordFault) (job : JobValue) (done : Done) → IsDone command job done → totals_in (Ok done) ≡ command_totals command job
 done_totals (Ok (Slice task)) job done is = ap (λ (d : Done). totals_in (Ok d)) is
 done_totals (Ok (Serial task)) job done is = ap (λ (d : Done). totals_in (Ok d)) is
 done_totals (Ok (Check task)) job done is = ap (λ (d : Done). totals_in (Ok d)) is

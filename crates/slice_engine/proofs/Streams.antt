@@ -239,3 +239,8 @@ bytes_at_end output job name before buffer (Ok tt) result bytes same f stopped c
     ∙ ap (λ (j : JobValue). bytes_after 0 (length (file_of j (take f.count (plans_of job))))) same
     ∙ ap (λ (file : Bytes). bytes_after 0 (length file)) (file_of_all job f.count (f.all refl))
 bytes_at_end output job name before buffer (Err stop) result bytes same f stopped count ok = absurd (not_ok stop (sym (stopped stop refl) ∙ ok))
+
+-- a file was written only where all plans were fed
+pub wrote_fed : (fed wrote : Result (Unit {0}) Stop) → ((stop : Stop) → fed ≡ Err stop → wrote ≡ Err stop) → wrote ≡ Ok tt → fed ≡ Ok tt
+wrote_fed (Ok t) wrote stopped ok = refl
+wrote_fed (Err stop) wrote stopped ok = absurd (not_ok stop (sym (stopped stop refl) ∙ ok))

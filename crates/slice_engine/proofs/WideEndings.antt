@@ -2,6 +2,7 @@
 use Rattle.std.proofs.Common.{ℕ, ◌≡◌, List, [], Bool, false, length, Option, Some, None, ◌⊎◌, inl, inr, Result, Ok, Err, refl, sym, ap, subst, ◌∙◌, arith}
 use Rattle.slice_base.specs.Causes.{Rose, counted}
 use Rattle.slice_base.specs.Shapes.{Bytes}
+use Rattle.outside.specs.Files.{Files}
 use Rattle.outside.specs.Store.{Store}
 use Rattle.outside.specs.Output.{Output}
 use Rattle.answers.specs.declared.refusal.Refusal.{Refusal}
@@ -16,7 +17,7 @@ use Rattle.slice_engine.specs.declared.done.Done.{Done}
 use Rattle.slice_engine.specs.declared.done.Done.TheVariants.{Sliced}
 use Rattle.slice_engine.specs.declared.writing.Stop.{Stop}
 use Rattle.slice_engine.specs.declared.writing.Stop.TheVariants.{Memory, Write}
-use Rattle.slice_engine.specs.Jobs.{Files, CommandGives}
+use Rattle.slice_engine.specs.Jobs.{CommandGives}
 use Rattle.slice_engine.specs.Reads.{read_faults}
 use Rattle.slice_engine.specs.Inner.Answered.{refusal_in}
 use Rattle.slice_engine.specs.Answers.{HoldsFile, SaysEnd, SaysWide, SaysSlice, Tells, WriteFaultsWide, write_faults}
@@ -80,7 +81,7 @@ counted_rose : (before after : ℕ) → after ≡ counted before → Rose before
 counted_rose before after e = omega arith
 
 -- and nothing failed, all was done, unless memory ran out
-pub complete_told : (command : Result Command WordFault) (files : Files) (job : JobValue) (ended : Result Done Refusal) (asked : Bool) (journal : List Event) (answer : Option Refusal) (shelf shelf_after : Store) (o p q before after : Output)
+pub complete_told : (command : Result Command WordFault) (files : Option Files) (job : JobValue) (ended : Result Done Refusal) (asked : Bool) (journal : List Event) (answer : Option Refusal) (shelf shelf_after : Store) (o p q before after : Output)
     → ((a b : Result JobValue Refusal) → CommandGives command files a → CommandGives command files b → a ≡ b) → shelf.files ≡ files → CommandGives command files (Ok job)
     → (Rose shelf.faults shelf_after.faults → ⊥) → (Rose o.faults p.faults → ⊥) → (Rose before.faults after.faults → ⊥)
     → shelf_after.faults ≡ read_faults (refusal_in ended) shelf.faults → WriteFaultsWide (refusal_in ended) o.faults p.faults
@@ -95,7 +96,7 @@ complete_told command files job (Err refusal.NoMemory) asked journal (Some s) sh
 complete_told command files job (Err (refusal.ReadFault name)) asked journal (Some s) shelf shelf_after o p q before after one told g shelf_quiet quiet console_quiet reads writes says tells =
     absurd (shelf_quiet (counted_rose shelf.faults shelf_after.faults reads))
 complete_told command files job (Err r) asked journal (Some s) shelf shelf_after o p q before after one told g shelf_quiet quiet console_quiet reads writes says tells =
-    absurd (no_refusal job r (one (Err r) (Ok job) (subst (λ (f : Files). CommandGives command f (Err r)) told says.says) g))
+    absurd (no_refusal job r (one (Err r) (Ok job) (subst (λ (f : Option Files). CommandGives command f (Err r)) told says.says) g))
 
 -- ---- what was asked for
 

@@ -2,6 +2,7 @@
 use Rattle.std.specs.Prelude.{ℕ, ◌≡◌, ◌⊎◌, Bool, true, false, cond, List, [], ◌++◌, length, Option, Some, None, Result, Ok, Err}
 use Rattle.slice_base.specs.Causes.{counted}
 use Rattle.slice_base.specs.Shapes.{Bytes}
+use Rattle.outside.specs.Files.{Files}
 use Rattle.outside.specs.Store.{Store}
 use Rattle.outside.specs.Output.{Output, Put, PutFront}
 use Rattle.answers.specs.declared.refusal.Refusal.{Refusal}
@@ -16,7 +17,7 @@ use Rattle.plan_types.specs.Jobs.{JobValue}
 use Rattle.plan_buffer.specs.Accepted.{Finished}
 use Rattle.ring_core.specs.declared.event.Event.{Event}
 use Rattle.slice_engine.specs.declared.done.Done.{Done}
-use Rattle.slice_engine.specs.Jobs.{Files, CommandGives}
+use Rattle.slice_engine.specs.Jobs.{CommandGives}
 use Rattle.slice_engine.specs.Reads.{SaysDefined, HasFailedRead}
 use Rattle.slice_engine.specs.Files.{job_file, BrokenOff, CutShort}
 use Rattle.slice_engine.specs.Done.{IsDone, done_text, journal_text}
@@ -49,14 +50,16 @@ HoldsFile (Some name) file before after = Finished name file before after
 HoldsFile None file before after = after ≡ before
 
 -- the command was done: its job is defined, and the output holds exactly the file
-pub record DidCommand (command : Result Command WordFault) (files : Files) (done : Done) (before after : Output) : Type 0 where
+pub record DidCommand (command : Result Command WordFault) (files : Option Files) (done : Done) (before after : Output)
+    : Type 0 where
   pub job : JobValue
   pub defined : CommandGives command files (Ok job)
   pub is_done : IsDone command job done
   pub holds : HoldsFile (output_of command) (job_file job) before after
 
 -- the output failed while the file of the command's job was written
-pub record FailedToWrite (command : Result Command WordFault) (files : Files) (before after : Output) : Type 0 where
+pub record FailedToWrite (command : Result Command WordFault) (files : Option Files) (before after : Output)
+    : Type 0 where
   pub job : JobValue
   pub defined : CommandGives command files (Ok job)
   pub name : Bytes
@@ -64,7 +67,8 @@ pub record FailedToWrite (command : Result Command WordFault) (files : Files) (b
   pub broken_off : BrokenOff name (job_file job) before after
 
 -- memory ran out while the file of the command's job was written, behind k plans
-pub record StoppedShort (command : Result Command WordFault) (files : Files) (before after : Output) : Type 0 where
+pub record StoppedShort (command : Result Command WordFault) (files : Option Files) (before after : Output)
+    : Type 0 where
   pub job : JobValue
   pub defined : CommandGives command files (Ok job)
   pub name : Bytes
@@ -73,8 +77,10 @@ pub record StoppedShort (command : Result Command WordFault) (files : Files) (be
   pub cut_short : CutShort name job k before after
 
 -- what is said of a command that was refused before the output was begun
-pub record RefusedBefore (command : Result Command WordFault) (r : Refusal) (shelf shelf_after : Store) (before after : Output) : Type 0 where
-  pub says : SaysDefined (Err r) (CommandGives command shelf.files) (λ name. HasFailedRead command name shelf shelf_after) (Unit {0})
+pub record RefusedBefore (command : Result Command WordFault) (r : Refusal) (shelf shelf_after : Store)
+    (before after : Output) : Type 0 where
+  pub says : SaysDefined (Err r) (CommandGives command shelf.files)
+      (λ name. HasFailedRead command name shelf shelf_after) (Unit {0})
   pub untouched : after ≡ before
 
 -- what the end of a command in one thread says of the shelf and the output
@@ -82,7 +88,8 @@ abbrev pub SaysEnd : Result Done Refusal → Result Command WordFault → Store 
 SaysEnd (Ok done) command shelf shelf_after before after = DidCommand command shelf.files done before after
 SaysEnd (Err refusal.WriteFault) command shelf shelf_after before after = FailedToWrite command shelf.files before after
 SaysEnd (Err refusal.NoMemory) command shelf shelf_after before after =
-    RefusedBefore command refusal.NoMemory shelf shelf_after before after ⊎ StoppedShort command shelf.files before after
+    RefusedBefore command refusal.NoMemory shelf shelf_after before after
+    ⊎ StoppedShort command shelf.files before after
 SaysEnd (Err r) command shelf shelf_after before after = RefusedBefore command r shelf shelf_after before after
 
 -- ---- the console
@@ -99,31 +106,37 @@ done_lines done is_asked journal = done_text done ++ cond is_asked (journal_text
 -- refusal, the refusal stays.
 abbrev pub Tells : Result Done Refusal → Bool → List Event → Option Refusal → Output → Output → Type 0
 Tells (Ok done) is_asked journal None before after = Put before (done_lines done is_asked journal) after
-Tells (Ok done) is_asked journal (Some r) before after = (r ≡ refusal.ConsoleFault) × PutFront before (done_lines done is_asked journal) after
+Tells (Ok done) is_asked journal (Some r) before after =
+    (r ≡ refusal.ConsoleFault) × PutFront before (done_lines done is_asked journal) after
 Tells (Err r) is_asked journal None before after = ⊥
 Tells (Err r) is_asked journal (Some told) before after = (told ≡ r) × SaidRefusal r before after
 
 -- what a run in one thread says of the words, the shelf, the output and the console: by how it ended, and by what the
 -- console got of it
-pub record Says (answer : Option Refusal) (words : List Bytes) (shelf shelf_after : Store) (before after console console_after : Output) : Type 0 where
+pub record Says (answer : Option Refusal) (words : List Bytes) (shelf shelf_after : Store)
+    (before after console console_after : Output) : Type 0 where
   pub ended : Result Done Refusal
   pub says : SaysEnd ended (command_of words) shelf shelf_after before after
   pub told : Tells ended false [] answer console console_after
 
 -- ---- a slice by many workers
 
--- a slice was done by so many workers: its job is defined, the output holds exactly the file, and the journal is a full run
-pub record DidSlice (files : Files) (task : Task) (done : Done) (journal : List Event) (before after : Output) : Type 0 where
+-- a slice was done by so many workers: its job is defined, the output holds exactly the file, and the journal is a full
+-- run
+pub record DidSlice (files : Option Files) (task : Task) (done : Done) (journal : List Event) (before after : Output)
+    : Type 0 where
   pub did : DidCommand (Ok (Slice task)) files done before after
   pub full : IsFullRun (length did.job.layers) task.workers journal
 
 -- the output failed while a slice was written, and the journal tells where
-pub record FailedToSlice (files : Files) (task : Task) (journal : List Event) (before after : Output) : Type 0 where
+pub record FailedToSlice (files : Option Files) (task : Task) (journal : List Event) (before after : Output)
+    : Type 0 where
   pub failed : FailedToWrite (Ok (Slice task)) files before after
-  pub ran : RanToFailure (length failed.job.layers) task.workers journal after.faults
+  pub ran : RanToFailure failed.job task.workers journal before after
 
 -- memory ran out while a slice was written, and the journal tells where
-pub record StoppedSlice (files : Files) (task : Task) (journal : List Event) (before after : Output) : Type 0 where
+pub record StoppedSlice (files : Option Files) (task : Task) (journal : List Event) (before after : Output)
+    : Type 0 where
   pub job : JobValue
   pub defined : CommandGives (Ok (Slice task)) files (Ok job)
   pub name : Bytes
@@ -132,22 +145,29 @@ pub record StoppedSlice (files : Files) (task : Task) (journal : List Event) (be
   pub cut_short : CutShortWide name job journal before after
 
 -- a slice that was refused before the output was begun has no journal
-pub record RefusedSlice (task : Task) (r : Refusal) (shelf shelf_after : Store) (journal : List Event) (before after : Output) : Type 0 where
+pub record RefusedSlice (task : Task) (r : Refusal) (shelf shelf_after : Store) (journal : List Event)
+    (before after : Output) : Type 0 where
   pub refused : RefusedBefore (Ok (Slice task)) r shelf shelf_after before after
   pub nothing : journal ≡ []
 
 -- what the end of a slice says of the shelf, the journal and the output
 abbrev pub SaysSlice : Result Done Refusal → Task → List Event → Store → Store → Output → Output → Type 0
 SaysSlice (Ok done) task journal shelf shelf_after before after = DidSlice shelf.files task done journal before after
-SaysSlice (Err refusal.WriteFault) task journal shelf shelf_after before after = FailedToSlice shelf.files task journal before after
+SaysSlice (Err refusal.WriteFault) task journal shelf shelf_after before after =
+    FailedToSlice shelf.files task journal before after
 SaysSlice (Err refusal.NoMemory) task journal shelf shelf_after before after =
-    RefusedSlice task refusal.NoMemory shelf shelf_after journal before after ⊎ StoppedSlice shelf.files task journal before after
-SaysSlice (Err r) task journal shelf shelf_after before after = RefusedSlice task r shelf shelf_after journal before after
+    RefusedSlice task refusal.NoMemory shelf shelf_after journal before after
+    ⊎ StoppedSlice shelf.files task journal before after
+SaysSlice (Err r) task journal shelf shelf_after before after =
+    RefusedSlice task r shelf shelf_after journal before after
 
 -- what the end of a command says: of a slice with its journal, of every other as in one thread and with none
-abbrev pub SaysWide : Result Done Refusal → Result Command WordFault → List Event → Store → Store → Output → Output → Type 0
-SaysWide ended (Ok (Slice task)) journal shelf shelf_after before after = SaysSlice ended task journal shelf shelf_after before after
-SaysWide ended command journal shelf shelf_after before after = SaysEnd ended command shelf shelf_after before after × (journal ≡ [])
+abbrev pub SaysWide : Result Done Refusal → Result Command WordFault → List Event → Store → Store → Output → Output
+    → Type 0
+SaysWide ended (Ok (Slice task)) journal shelf shelf_after before after =
+    SaysSlice ended task journal shelf shelf_after before after
+SaysWide ended command journal shelf shelf_after before after =
+    SaysEnd ended command shelf shelf_after before after × (journal ≡ [])
 
 -- the words ask for the lines of the journal
 abbrev pub asks_journal : Result Command WordFault → Bool
@@ -155,7 +175,8 @@ asks_journal (Ok (Slice task)) = task.journal
 asks_journal command = false
 
 -- what a run of many workers says of the words, the shelf, the output, the console and the journal
-pub record SaysAll (answer : Option Refusal) (words : List Bytes) (journal : List Event) (shelf shelf_after : Store) (before after console console_after : Output) : Type 0 where
+pub record SaysAll (answer : Option Refusal) (words : List Bytes) (journal : List Event) (shelf shelf_after : Store)
+    (before after console console_after : Output) : Type 0 where
   pub ended : Result Done Refusal
   pub says : SaysWide ended (command_of words) journal shelf shelf_after before after
   pub told : Tells ended (asks_journal (command_of words)) journal answer console console_after

@@ -24,7 +24,7 @@ use Rattle.slice_engine.specs.declared.totals.Totals.{Totals}
 use Rattle.slice_engine.specs.declared.uses.UseCounts.{UseCounts}
 use Rattle.slice_engine.specs.Jobs.{SamplePlate}
 use Rattle.slice_engine.specs.Files.{plans_of, job_file}
-use Rattle.slice_engine.specs.Totals.{totals_of, no_totals}
+use Rattle.slice_engine.specs.Totals.{totals_of, unplanned_totals, no_totals}
 
 -- ---- uses and switches
 
@@ -75,7 +75,7 @@ pub record IsDrawn (number : ℕ) (job : JobValue) (told : Generated) (totals : 
 abbrev pub IsDone : Result Command WordFault → JobValue → Done → Type 0
 IsDone (Ok (Slice task)) job done = done ≡ Sliced (totals_of job)
 IsDone (Ok (Serial task)) job done = done ≡ Sliced (totals_of job)
-IsDone (Ok (Check task)) job done = done ≡ Checked (totals_of job)
+IsDone (Ok (Check task)) job done = done ≡ Checked (unplanned_totals job)
 IsDone (Ok (Gen number name)) job (Drawn told totals) = IsDrawn number job told totals
 IsDone (Ok (Gen number name)) job done = ⊥
 IsDone (Err f) job done = ⊥

@@ -3,6 +3,7 @@ use Rattle.std.specs.Prelude.{ℕ, ◌≡◌, ◌⊎◌, List, [], ◌∷◌, Op
 use Rattle.settings_core.specs.declared.pairs.Pair.{Pair}
 use Rattle.settings_core.specs.declared.pairs.Scope.TheVariants.{Global}
 use Rattle.settings_core.specs.declared.pairs.Given.TheVariants.{Words}
+use Rattle.outside.specs.Files.{Files}
 use Rattle.answers.specs.declared.refusal.Refusal.{Refusal}
 use Rattle.answers.specs.declared.refusal.Refusal.TheVariants as refusal
 use Rattle.cli_words.specs.declared.command.Command.{Command}
@@ -21,10 +22,6 @@ use Rattle.plan_types.specs.Jobs.{JobValue}
 use Rattle.area_stage.specs.declared.faults.AreaFault.{AreaFault}
 use Rattle.area_stage.specs.declared.faults.AreaFault.TheVariants as area
 use Rattle.area_stage.specs.Areas.{AreasGive}
-
--- the names and bytes of files, where they are told
-abbrev pub Files : Type 0
-Files = Option (List (List ℕ × List ℕ))
 
 -- ---- a plate and its areas
 
@@ -63,7 +60,7 @@ PlateThenAreas Defines (Err r) = HasNoPlate Defines r ⊎ HasNoAreas Defines r
 -- ---- commands
 
 -- what the items of a task and files define
-abbrev pub TaskGives : List Item → Files → Result JobValue Refusal → Type 0
+abbrev pub TaskGives : List Item → Option Files → Result JobValue Refusal → Type 0
 TaskGives items files = PlateThenAreas (PlateGives items files)
 
 -- the settings of a generated job: two extruders
@@ -90,7 +87,7 @@ word_refusal fault.NoOutput = refusal.NoOutput
 word_refusal fault.NoMemory = refusal.NoMemory
 
 -- what a command and files define, or words at fault
-abbrev pub CommandGives : Result Command WordFault → Files → Result JobValue Refusal → Type 0
+abbrev pub CommandGives : Result Command WordFault → Option Files → Result JobValue Refusal → Type 0
 CommandGives (Ok (Slice task)) files answer = TaskGives task.items files answer
 CommandGives (Ok (Serial task)) files answer = TaskGives task.items files answer
 CommandGives (Ok (Check task)) files answer = TaskGives task.items files answer
@@ -98,5 +95,5 @@ CommandGives (Ok (Gen number name)) files answer = SampleGives number answer
 CommandGives (Err f) files answer = answer ≡ Err (word_refusal f)
 
 -- what words and files define
-abbrev pub JobGives : List (List ℕ) → Files → Result JobValue Refusal → Type 0
+abbrev pub JobGives : List (List ℕ) → Option Files → Result JobValue Refusal → Type 0
 JobGives words files answer = CommandGives (command_of words) files answer

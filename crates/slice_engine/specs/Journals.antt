@@ -9,9 +9,12 @@ use Rattle.ring_core.specs.declared.event.Event.{Event}
 use Rattle.ring_core.specs.declared.event.Cause.TheVariants.{Memory, Write}
 use Rattle.ring_core.specs.Core.{IsRun, reached}
 use Rattle.ring_core.specs.Laws.{backs, IsWhole}
+use Rattle.gcode_write.specs.Ends.{header_of}
+use Rattle.gcode_write.specs.Writing.{HoldsFront}
 use Rattle.slice_engine.specs.Files.{job_file, CutShort}
 
--- a run that took all n layers: nobody is in turn and no cause is kept at its end, each layer was claimed, placed, taken
+-- a run that took all n layers: nobody is in turn and no cause is kept at its end, each layer was claimed, placed,
+-- taken
 -- and given back once, in rising order but for the placements
 pub record IsFullRun (n workers : ℕ) (journal : List Event) : Type 0 where
   pub run : IsRun n workers journal
@@ -20,11 +23,12 @@ pub record IsFullRun (n workers : ℕ) (journal : List Event) : Type 0 where
   pub calm : (reached journal).cause ≡ None
   pub whole : IsWhole n journal
 
--- a run in which the output failed, now for that count of times: before the first event, at the layer at which a worker
--- halted with this count, first of all causes, or behind all layers
-pub record RanToFailure (n workers : ℕ) (journal : List Event) (faults : ℕ) : Type 0 where
-  pub run : IsRun n workers journal
-  pub cause : (journal ≡ []) ⊎ (((reached journal).cause ≡ Some (Write faults)) ⊎ IsFullRun n workers journal)
+-- a run in which the output failed: before the first event, as the output was begun or took the header; at the layer at
+-- which a worker halted with the count of faults that the output has, first of all causes; or behind all layers
+pub record RanToFailure (job : JobValue) (workers : ℕ) (journal : List Event) (before after : Output) : Type 0 where
+  pub run : IsRun (length job.layers) workers journal
+  pub cause : ((journal ≡ []) × HoldsFront after.begun (header_of job) before after)
+      ⊎ (((reached journal).cause ≡ Some (Write after.faults)) ⊎ IsFullRun (length job.layers) workers journal)
 
 -- a run in which memory ran out: before the first event, or where a worker halted for that, first of all causes
 pub record RanOutOfMemory (n workers : ℕ) (journal : List Event) : Type 0 where

@@ -52,7 +52,8 @@ HasFailedRead (Ok (Gen number file)) name before after = ⊥
 HasFailedRead (Err f) name before after = ⊥
 
 -- what a job, or a refusal, says of what defines it: it is what is defined, but for a failed read and want of memory
-abbrev pub SaysDefined : Result JobValue Refusal → (Result JobValue Refusal → Type 0) → (List ℕ → Type 0) → Type 0 → Type 0
+abbrev pub SaysDefined : Result JobValue Refusal → (Result JobValue Refusal → Type 0) → (List ℕ → Type 0) → Type 0
+    → Type 0
 SaysDefined (Err (refusal.ReadFault name)) Gives Failed Faultless = Failed name
 SaysDefined (Err refusal.NoMemory) Gives Failed Faultless = Faultless
 SaysDefined answer Gives Failed Faultless = Gives answer

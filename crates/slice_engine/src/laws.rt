@@ -2,6 +2,7 @@
 
 ghost use Rattle.std.specs.Prelude.{◌≡◌, List, ℕ, Result, Some, length};
 ghost use Rattle.slice_base.specs.Causes.{counted_by};
+ghost use Rattle.outside.specs.Files.{Files};
 ghost use Rattle.answers.specs.declared.refusal.Refusal.{Refusal};
 ghost use Rattle.plan_types.specs.Jobs.{JobValue};
 ghost use Rattle.preheat_plan.specs.Past.{rules_of};
@@ -15,7 +16,7 @@ use plate_input::{one_made, one_plate};
 
 /// Words and told files define one job, or one refusal, at most.
 pub fn one_job()
-    ensures { (words : List (List ℕ)) (files : List (List ℕ × List ℕ)) (a b : Result JobValue Refusal)
+    ensures { (words : List (List ℕ)) (files : Files) (a b : Result JobValue Refusal)
         → JobGives words (Some files) a → JobGives words (Some files) b → a ≡ b }
 {
     one_plate();

@@ -49,13 +49,19 @@ fn job_of_plate(alloc: Global, plate: Plate) -> Result<Job, Refusal>
     }
 }
 
-// The same, by many threads.
-fn wide_job_of_plate<R: Threads + Sync>(rt: &R, alloc: Global, plate: Plate) -> Result<Job, Refusal>
+// The same, by so many threads.
+fn wide_job_of_plate<R: Threads + Sync>(
+    rt: &R,
+    alloc: Global,
+    threads: u32,
+    plate: Plate,
+) -> Result<Job, Refusal>
+    requires threads { 0 < threads }
     ensures job { IfOk result (λ job. AreasGive plate.settings plate.meshes (Ok job)) }
     ensures refused { IfErr result (λ r. (r ≡ refusal.NoMemory) ⊎ LacksAreas plate r) }
 {
     let Plate { settings, meshes } = plate;
-    match areas_wide(rt, alloc, settings, meshes.items()) {
+    match areas_wide(rt, alloc, threads, settings, meshes.items()) {
         Ok(job) => Ok(job),
         Err(fault) => Err(area_refusal(fault)),
     }
@@ -111,7 +117,7 @@ pub(crate) fn plan_task_wide<Sh: Shelf, R: Threads + Sync>(
     ensures faults { (Sh.store shelf.new).faults ≡ read_faults (refusal_in result) (Sh.store shelf.old).faults }
 {
     let plate = plate_of_task(alloc, task, shelf)?;
-    match wide_job_of_plate(rt, alloc, plate) {
+    match wide_job_of_plate(rt, alloc, u32::from(task.workers), plate) {
         Ok(job) => Ok(job),
         Err(refusal) => Err(refusal),
     }

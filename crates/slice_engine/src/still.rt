@@ -14,7 +14,7 @@ ghost use Rattle.slice_engine.specs.Inner.Feeding.{stop_refusal};
 
 use crate::done::Done;
 use crate::planning::{Sample, plan_sample, plan_task};
-use crate::totals::totals_of;
+use crate::totals::{totals_of, unplanned_totals};
 use crate::uses::uses;
 use crate::writing::{Stop, Written, write_file};
 use answers::{Generated, Refusal};
@@ -61,11 +61,12 @@ fn slice_still<Sh: Shelf, Si: Sink>(
     let Written {
         wrote,
         bytes: _,
+        spent,
         sink,
     } = write_file(alloc, &job, name, sink);
     match wrote {
         Ok(()) => {
-            let totals = totals_of(&job);
+            let totals = totals_of(&job, &spent);
             (Ok(Done::Sliced { totals }), sink)
         }
         Err(stop) => (Err(stop_refusal(stop)), sink),
@@ -84,7 +85,7 @@ fn check<Sh: Shelf>(alloc: Global, task: Task, shelf: &mut Sh) -> Result<Done, R
 {
     let job = plan_task(alloc, &task, shelf)?;
     Ok(Done::Checked {
-        totals: totals_of(&job),
+        totals: unplanned_totals(&job),
     })
 }
 
@@ -102,7 +103,12 @@ fn draw<Si: Sink>(alloc: Global, number: u32, name: Text, sink: Si) -> (Result<D
     let Ok(uses) = uses(alloc, &job) else {
         return (Err(Refusal::NoMemory), sink);
     };
-    let Written { wrote, bytes, sink } = write_file(alloc, &job, name, sink);
+    let Written {
+        wrote,
+        bytes,
+        spent,
+        sink,
+    } = write_file(alloc, &job, name, sink);
     match wrote {
         Ok(()) => {
             let told = Generated {
@@ -113,7 +119,7 @@ fn draw<Si: Sink>(alloc: Global, number: u32, name: Text, sink: Si) -> (Result<D
                 preheats: uses.switches,
                 bytes,
             };
-            let totals = totals_of(&job);
+            let totals = totals_of(&job, &spent);
             (Ok(Done::Drawn { told, totals }), sink)
         }
         Err(stop) => (Err(stop_refusal(stop)), sink),

@@ -2,6 +2,7 @@
 
 ghost use Rattle.std.specs.Prelude.{ℕ, ◌≡◌, ◌⊎◌, ◌↔◌, [], List, Option, Some, None, Result, Ok, Err, map, string_bytes};
 ghost use Rattle.slice_base.specs.Causes.{Rose};
+ghost use Rattle.outside.specs.Files.{Files};
 ghost use Rattle.answers.specs.declared.refusal.Refusal.{Refusal};
 ghost use Rattle.answers.specs.declared.refusal.Refusal.TheVariants as refusal;
 ghost use Rattle.answers.specs.Statuses.{status_of};
@@ -93,7 +94,7 @@ pub fn still_top<Sh: Shelf, Si: Sink, Co: Sink>(
         ↔ (command_of (map string_bytes words.now) ≡ Err fault.NoOutput) }
 
     // Where told files define a job and nothing failed, all was done, unless memory ran out.
-    ensures complete { (files : List (List ℕ × List ℕ)) (job : JobValue) → (Sh.store shelf.old).files ≡ Some files
+    ensures complete { (files : Files) (job : JobValue) → (Sh.store shelf.old).files ≡ Some files
         → JobGives (map string_bytes words.now) (Some files) (Ok job)
         → ¬ (Rose (Sh.store shelf.old).faults (Sh.store shelf.new).faults)
         → ¬ (Rose (Si.output sink).faults (Si.output result.1).faults)
@@ -101,13 +102,13 @@ pub fn still_top<Sh: Shelf, Si: Sink, Co: Sink>(
         → (result.0.refusal ≡ None) ⊎ (result.0.refusal ≡ Some refusal.NoMemory) }
 
     // Where they define a refusal and no read failed, that is the answer, unless memory ran out.
-    ensures refused { (files : List (List ℕ × List ℕ)) (r : Refusal) → (Sh.store shelf.old).files ≡ Some files
+    ensures refused { (files : Files) (r : Refusal) → (Sh.store shelf.old).files ≡ Some files
         → JobGives (map string_bytes words.now) (Some files) (Err r)
         → ¬ (Rose (Sh.store shelf.old).faults (Sh.store shelf.new).faults)
         → (result.0.refusal ≡ Some r) ⊎ (result.0.refusal ≡ Some refusal.NoMemory) }
 
     // Words and told files define one job, or one refusal, at most.
-    ensures only { (files : List (List ℕ × List ℕ)) (a b : Result JobValue Refusal)
+    ensures only { (files : Files) (a b : Result JobValue Refusal)
         → JobGives (map string_bytes words.now) (Some files) a → JobGives (map string_bytes words.now) (Some files) b
         → a ≡ b }
 
@@ -196,7 +197,7 @@ pub fn slice_top<Sh: Shelf, Si: Sink + Send, Co: Sink, G: Gate + Sync, R: Thread
         ↔ (command_of (map string_bytes words.now) ≡ Err fault.NoOutput) }
 
     // Where told files define a job and nothing failed, all was done, unless memory ran out.
-    ensures complete { (files : List (List ℕ × List ℕ)) (job : JobValue) → (Sh.store shelf.old).files ≡ Some files
+    ensures complete { (files : Files) (job : JobValue) → (Sh.store shelf.old).files ≡ Some files
         → JobGives (map string_bytes words.now) (Some files) (Ok job)
         → ¬ (Rose (Sh.store shelf.old).faults (Sh.store shelf.new).faults)
         → ¬ (Rose (Si.output sink).faults (Si.output result.1).faults)
@@ -204,13 +205,13 @@ pub fn slice_top<Sh: Shelf, Si: Sink + Send, Co: Sink, G: Gate + Sync, R: Thread
         → (result.0.refusal ≡ None) ⊎ (result.0.refusal ≡ Some refusal.NoMemory) }
 
     // Where they define a refusal and no read failed, that is the answer, unless memory ran out.
-    ensures refused { (files : List (List ℕ × List ℕ)) (r : Refusal) → (Sh.store shelf.old).files ≡ Some files
+    ensures refused { (files : Files) (r : Refusal) → (Sh.store shelf.old).files ≡ Some files
         → JobGives (map string_bytes words.now) (Some files) (Err r)
         → ¬ (Rose (Sh.store shelf.old).faults (Sh.store shelf.new).faults)
         → (result.0.refusal ≡ Some r) ⊎ (result.0.refusal ≡ Some refusal.NoMemory) }
 
     // Words and told files define one job, or one refusal, at most.
-    ensures only { (files : List (List ℕ × List ℕ)) (a b : Result JobValue Refusal)
+    ensures only { (files : Files) (a b : Result JobValue Refusal)
         → JobGives (map string_bytes words.now) (Some files) a → JobGives (map string_bytes words.now) (Some files) b
         → a ≡ b }
 

@@ -1,12 +1,15 @@
 // What is told of a job as a whole.
 
 ghost use Rattle.std.specs.Prelude.{◌≡◌};
-ghost use Rattle.slice_engine.specs.Totals.{has_loop, has_loops, has_areas, are_bare, with_bare, with_bare_layers, totals_of, no_totals};
+ghost use Rattle.print_totals.specs.Spending.{HasSpent};
+ghost use Rattle.slice_engine.specs.Files.{plans_of};
+ghost use Rattle.slice_engine.specs.Totals.{has_loop, has_loops, has_areas, are_bare, with_bare, with_bare_layers, job_time, job_filaments, totals_of, unplanned_totals, no_totals};
 
 use plan_types::{Job, LayerAreas, MeshAreas};
+use print_totals::Spent;
 use slice_base::Region;
 
-/// What is told of a job as a whole; all counts are 0 where there was none.
+/// What is told of a job as a whole; all is 0 where there was none.
 #[derive(Clone, Copy, PartialEq, Eq, Debug)]
 pub struct Totals {
     /// Its layers.
@@ -15,6 +18,11 @@ pub struct Totals {
     pub open_outlines: u64,
     /// The layers on which no mesh has a wall, skin or fill, so that nothing of it is printed.
     pub bare_layers: u64,
+    /// The estimated time of the print, µs; 0 where nothing was planned.
+    pub time: u128,
+    /// The filament of each extruder, by number, in hundred-thousandths of a millimetre; 0 of one that the job doesn't
+    /// have, and where nothing was planned.
+    pub filaments: [u128; 8],
 }
 
 /// The totals where there was no job.
@@ -25,6 +33,8 @@ pub(crate) fn no_totals() -> Totals
         layers: 0,
         open_outlines: 0,
         bare_layers: 0,
+        time: 0,
+        filaments: [0; 8],
     }
 }
 
@@ -82,13 +92,41 @@ fn with_bare_layers(n: u64, layers: &[LayerAreas]) -> u64
     so_far
 }
 
-/// The totals of a job.
-pub(crate) fn totals_of(job: &Job) -> Totals
-    ensures { result ≡ totals_of job.now }
+/// The totals of a job of which nothing was planned.
+pub(crate) fn unplanned_totals(job: &Job) -> Totals
+    ensures { result ≡ unplanned_totals job.now }
 {
     Totals {
         layers: job.layers.len() as u32,
         open_outlines: job.open_outlines,
         bare_layers: with_bare_layers(0, job.layers.items()),
+        time: 0,
+        filaments: [0; 8],
+    }
+}
+
+fn job_time(job: &Job, spent: &Spent) -> u128
+    requires { HasSpent job.now (plans_of job.now) spent.now }
+    ensures { result ≡ job_time job.now }
+{
+    spent.time()
+}
+
+fn job_filaments(job: &Job, spent: &Spent) -> [u128; 8]
+    requires { HasSpent job.now (plans_of job.now) spent.now }
+    ensures { result ≡ job_filaments job.now }
+{
+    spent.filaments(job)
+}
+
+/// The totals of a job, of whose plans these are the sums.
+pub(crate) fn totals_of(job: &Job, spent: &Spent) -> Totals
+    requires { HasSpent job.now (plans_of job.now) spent.now }
+    ensures { result ≡ totals_of job.now }
+{
+    Totals {
+        time: job_time(job, spent),
+        filaments: job_filaments(job, spent),
+        ..unplanned_totals(job)
     }
 }

@@ -71,11 +71,12 @@ fn slice_wide<Sh: Shelf, Si: Sink + Send, G: Gate + Sync, R: Threads + Wait + Sy
     let Wide {
         wrote,
         journal,
+        spent,
         sink,
     } = write_wide(rt, alloc, &job, name, sink, workers, gate);
     let ended = match wrote {
         Ok(()) => Ok(Done::Sliced {
-            totals: totals_of(&job),
+            totals: totals_of(&job, &spent),
         }),
         Err(stop) => Err(stop_refusal(stop)),
     };

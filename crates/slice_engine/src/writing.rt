@@ -1,13 +1,14 @@
 // Writes the file of a job, its layers planned one after another.
 
-ghost use Rattle.std.specs.Prelude.{◌≡◌, false, length, Ok, Err};
+ghost use Rattle.std.specs.Prelude.{◌≡◌, false, [], length, Ok, Err};
 ghost use Rattle.slice_base.specs.Shapes.{Bytes};
 ghost use Rattle.outside.specs.Output.{Output};
 ghost use Rattle.plan_buffer.specs.Accepted.{Past, HasAccepted};
 ghost use Rattle.slice_engine.specs.declared.writing.Stop.{Stop};
 ghost use Rattle.outside.specs.Pens.{bytes_after};
 ghost use Rattle.plan_buffer.specs.File.{file_of};
-ghost use Rattle.slice_engine.specs.Files.{job_file};
+ghost use Rattle.print_totals.specs.Spending.{HasSpent};
+ghost use Rattle.slice_engine.specs.Files.{job_file, plans_of};
 ghost use Rattle.slice_engine.specs.Inner.Feeding.{past_of, Fed, Wrote, Flushed};
 
 use gcode_write::Writer;
@@ -15,6 +16,7 @@ use layer_plan::plan_layer;
 use outside::Sink;
 use plan_buffer::{PlanBuffer, texts_rest_on_plans, writes_a_front};
 use plan_types::Job;
+use print_totals::{Spent, amounts_of};
 use slice_base::Text;
 use std::alloc::Global;
 
@@ -27,20 +29,28 @@ pub(crate) enum Stop {
     Write,
 }
 
-// Plans the layers one after another, and has the buffer accept each.
-fn feed<S: Sink>(alloc: Global, job: &Job, buffer: &mut PlanBuffer<S>) -> Result<(), Stop>
+// Plans the layers one after another, adds up what they take, and has the buffer accept each.
+fn feed<S: Sink>(
+    alloc: Global,
+    job: &Job,
+    buffer: &mut PlanBuffer<S>,
+    spent: &mut Spent,
+) -> Result<(), Stop>
     requires job { buffer.old.job ≡ job.now }
     requires first { buffer.old.window.taken ≡ 0 }
     requires unfailed { buffer.old.pen.failed ≡ false }
+    requires unspent { HasSpent job.now [] spent.old }
     ensures fed { (name : Bytes) (before : Output) → HasAccepted S.output buffer.old (past_of job.now name before 0)
         → Fed S.output job.now name before result buffer.new }
     ensures job { buffer.new.job ≡ job.now }
+    ensures spent { result ≡ Ok tt → HasSpent job.now (plans_of job.now) spent.new }
 {
     let layers = job.layers.len() as u32;
     'layers: for layer in 0..layers {
         let Ok(plan) = plan_layer(alloc, job, layer) else {
             return Err(Stop::Memory);
         };
+        spent.add(job, &plan, amounts_of(&plan));
         if buffer.accept(plan).is_err() {
             return Err(Stop::Write);
         }
@@ -48,10 +58,11 @@ fn feed<S: Sink>(alloc: Global, job: &Job, buffer: &mut PlanBuffer<S>) -> Result
     Ok(())
 }
 
-/// How a file ended: whether it was written, how many bytes were put, and the sink.
+/// How a file ended: whether it was written, how many bytes were put, the sums of its plans, and the sink.
 pub(crate) struct Written<S> {
     pub(crate) wrote: Result<(), Stop>,
     pub(crate) bytes: u128,
+    pub(crate) spent: Spent,
     pub(crate) sink: S,
 }
 
@@ -76,6 +87,7 @@ pub(crate) fn flush<S: Sink>(buffer: &mut PlanBuffer<S>, fed: Result<(), Stop>) 
 pub(crate) fn write_file<S: Sink>(alloc: Global, job: &Job, name: Text, sink: S) -> Written<S>
     ensures wrote { Wrote result.wrote job.now name (S.output sink) (S.output result.sink) }
     ensures bytes { result.wrote ≡ Ok tt → result.bytes ≡ bytes_after 0 (length (job_file job.now)) }
+    ensures spent { result.wrote ≡ Ok tt → HasSpent job.now (plans_of job.now) result.spent }
 {
     texts_rest_on_plans();
     writes_a_front();
@@ -83,15 +95,18 @@ pub(crate) fn write_file<S: Sink>(alloc: Global, job: &Job, name: Text, sink: S)
         Err(unbegun) => Written {
             wrote: Err(Stop::Write),
             bytes: 0,
+            spent: Spent::new(),
             sink: unbegun.sink,
         },
         Ok(writer) => {
             let mut buffer = PlanBuffer::make(alloc, writer);
-            let fed = feed(alloc, job, &mut buffer);
+            let mut spent = Spent::new();
+            let fed = feed(alloc, job, &mut buffer, &mut spent);
             let wrote = flush(&mut buffer, fed);
             Written {
                 wrote,
                 bytes: buffer.bytes(),
+                spent,
                 sink: buffer.into_sink(),
             }
         }

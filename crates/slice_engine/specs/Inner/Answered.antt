@@ -19,7 +19,8 @@ refusal_in (Err r) = Some r
 
 -- the same of a task and its files
 abbrev pub SaysTask : Result JobValue Refusal → List Item → Store → Store → Type 0
-SaysTask answer items before after = SaysDefined answer (TaskGives items before.files) (λ name. FailedRead items name before after) (Unit {0})
+SaysTask answer items before after =
+    SaysDefined answer (TaskGives items before.files) (λ name. FailedRead items name before after) (Unit {0})
 
 -- the totals of what was done; none where it was refused
 abbrev pub totals_in : Result Done Refusal → Totals

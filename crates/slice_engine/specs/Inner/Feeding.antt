@@ -19,7 +19,8 @@ abbrev pub past_of : JobValue → Bytes → Output → ℕ → Past
 past_of job name before k = record { plans = take k (plans_of job); name = name; before = before }
 
 -- how a result that is a stop or none goes with whether the pen failed, and with how many plans were accepted
-pub record Fed {S : Type 0} (output : S → Output) (job : JobValue) (name : Bytes) (before : Output) (result : Result (Unit {0}) Stop) (buffer : BufferValue S) : Type 0 where
+pub record Fed {S : Type 0} (output : S → Output) (job : JobValue) (name : Bytes) (before : Output)
+    (result : Result (Unit {0}) Stop) (buffer : BufferValue S) : Type 0 where
   pub count : ℕ
   pub few : count ≤ length job.layers
   pub accepted : HasAccepted output buffer (past_of job name before count)

@@ -12,6 +12,9 @@ use Rattle.slice_engine.specs.Journals.{IsFullRun, RanToFailure, RanOutOfMemory,
 
 -- what the workers did and the output holds, once a file was written or the work stopped
 abbrev pub WroteWide : Result (Unit {0}) Stop → List Event → JobValue → ℕ → Bytes → Output → Output → Type 0
-WroteWide (Ok t) journal job workers name before after = IsFullRun (length job.layers) workers journal × Finished name (job_file job) before after
-WroteWide (Err Write) journal job workers name before after = RanToFailure (length job.layers) workers journal after.faults × BrokenOff name (job_file job) before after
-WroteWide (Err Memory) journal job workers name before after = RanOutOfMemory (length job.layers) workers journal × CutShortWide name job journal before after
+WroteWide (Ok t) journal job workers name before after =
+    IsFullRun (length job.layers) workers journal × Finished name (job_file job) before after
+WroteWide (Err Write) journal job workers name before after =
+    RanToFailure job workers journal before after × BrokenOff name (job_file job) before after
+WroteWide (Err Memory) journal job workers name before after =
+    RanOutOfMemory (length job.layers) workers journal × CutShortWide name job journal before after

@@ -23,7 +23,7 @@ returns-clause-says g c =
     let told : (e : Result Done Refusal) → c.match-wrote.ended ≡ e → SaysSlice e task journal shelf shelf_after before after → SaysSlice c.match-wrote.ended task journal shelf shelf_after before after =
     λ e is h. subst (λ (x : Result Done Refusal). SaysSlice x task journal shelf shelf_after before after) (sym is) h in
     let wrote : WroteWide c.write_wide-wrote.result.wrote journal job task.workers name before after =
-    subst (λ (n : ℕ). WroteWide c.write_wide-wrote.result.wrote journal job n name before after) c.from-workers.ensures c.write_wide-wrote.ensures in
+    subst (λ (n : ℕ). WroteWide c.write_wide-wrote.result.wrote journal job n name before after) c.from-workers.ensures c.write_wide-wrote.ensures.wrote in
     elim c.match-wrote.branch [
       | in-Ok-wrote w ↦
           let same : w.totals_of.result ≡ totals_of job = search rules in

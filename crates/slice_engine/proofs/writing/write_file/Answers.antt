@@ -5,7 +5,7 @@ use Rattle.plan_types.specs.Jobs.{JobValue}
 use Rattle.gcode_write.specs.Ends.{header_of, start_of}
 use Rattle.plan_buffer.specs.Streams.{Streamed}
 use Rattle.slice_engine.specs.Inner.Feeding.{Flushed}
-use Rattle.slice_engine.proofs.Streams.{still_end, unbegun, none_fed, bytes_at_end}
+use Rattle.slice_engine.proofs.Streams.{still_end, unbegun, none_fed, bytes_at_end, wrote_fed}
 use Rattle.slice_engine.proofs.writing.write_file.Goals as goal
 
 pub returns-in-Err-clause-wrote : goal.returns-in-Err-clause-wrote
@@ -37,3 +37,7 @@ returns-in-Ok-clause-bytes g c = λ ok.
     let fed = c.feed-fed.ensures.fed name before none in
     c.bytes.ensures ∙ bytes_at_end output job name before c.feed-fed.new.buffer c.feed-fed.result c.flush-wrote.result c.flush-wrote.new.buffer.pen.bytes c.feed-fed.ensures.job fed
     (λ stop is. (c.flush-wrote.ensures.stopped stop is).0) c.flush-wrote.ensures.bytes ok
+
+pub returns-in-Ok-clause-spent : goal.returns-in-Ok-clause-spent
+returns-in-Ok-clause-spent g c = λ ok.
+    c.feed-fed.ensures.spent (wrote_fed c.feed-fed.result c.flush-wrote.result (λ stop is. (c.flush-wrote.ensures.stopped stop is).0) ok)

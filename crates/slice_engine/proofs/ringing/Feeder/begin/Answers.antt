@@ -27,4 +27,4 @@ returns-in-Ok-clause-fed g c =
     let before = output c.args.sink in
     let began = none_fed output job name before c.in-Ok.writer.pen c.in-Ok.ensures.ok c.in-Ok.ensures.failed c.in-Ok.ensures.bytes in
     let stream = subst (λ (j : JobValue). Streamed output name (header_of j) before c.in-Ok.writer.pen) (sym c.in-Ok.ensures.job) began in
-    (ap (λ b. b.pen.failed) c.make.ensures.value ∙ c.in-Ok.ensures.failed, c.make.ensures.accepted name before stream (c.in-Ok.ensures.progress ∙ ap start_of (sym c.in-Ok.ensures.job)))
+    (ap (λ b. b.pen.failed) c.make.ensures.value ∙ c.in-Ok.ensures.failed, c.make.ensures.accepted name before stream (c.in-Ok.ensures.progress ∙ ap start_of (sym c.in-Ok.ensures.job)), c.new.ensures job)
