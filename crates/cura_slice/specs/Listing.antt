@@ -1,5 +1,5 @@
 -- The table of settings as a text. Texts are bytes of UTF-8, and lines end with a line feed.
-use Rattle.std.specs.Prelude.{ℕ, ◌+◌, ◌-◌, Bool, true, false, if◌then◌else◌, List, [], ◌∷◌, ◌++◌, codes, replicate}
+use Rattle.std.specs.Prelude.{ℕ, ◌+◌, ◌-◌, Bool, true, false, cond, List, [], ◌∷◌, ◌++◌, codes, replicate}
 use Rattle.std.specs.Fmt.{char_count}
 use Rattle.settings_table.specs.declared.table.Setting.{Setting}
 use Rattle.settings_table.specs.declared.table.Group.{Group}
@@ -38,7 +38,7 @@ is_group Mesh Mesh = true
 
 -- the entry of a setting, where the setting is of the group
 abbrev pub entry_in : Group → Setting → List ℕ
-entry_in group setting = if is_group (group_of setting) group then entry (row_of setting) else []
+entry_in group setting = cond (is_group (group_of setting) group) (entry (row_of setting)) []
 
 -- the entries of those settings that are of the group, in the order of the list
 abbrev pub entries : Group → List Setting → List ℕ
@@ -57,4 +57,6 @@ group_text group = heading group ++ entries group all_settings
 
 -- the whole table, group by group
 abbrev pub listing_text : List ℕ
-listing_text = codes "Name, unit, range and default of each setting." ++ 10 ∷ [] ++ group_text Global ++ group_text Extruder ++ group_text Mesh
+listing_text =
+    codes "Name, unit, range and default of each setting." ++ 10 ∷ [] ++ group_text Global ++ group_text Extruder
+    ++ group_text Mesh

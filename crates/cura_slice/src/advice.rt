@@ -5,6 +5,7 @@ use crate::help::USAGE;
 use crate::texts::{push, push_number, push_word};
 use answers::Refusal;
 use cli_words::Item;
+use mesh_placing::{Excess, Side};
 use settings_core::{Given, Pair, Scope};
 use settings_table::Setting;
 use slice_base::{NoMemory, Text};
@@ -230,6 +231,52 @@ fn push_stl_advice(
     )
 }
 
+// Puts µm as mm.
+fn push_mm(text: &mut Vec<u8>, um: u64) -> Result<(), NoMemory> {
+    let behind_point = um % 1000;
+    push_number(text, u128::from(um / 1000))?;
+    push(text, b".")?;
+    if behind_point < 100 {
+        push(text, b"0")?;
+    }
+    if behind_point < 10 {
+        push(text, b"0")?;
+    }
+    push_number(text, u128::from(behind_point))
+}
+
+// The name of a side, the setting that moves a mesh away from it, and what else there is to do.
+fn side_texts(side: Side) -> (&'static str, &'static str, &'static str) {
+    match side {
+        Side::Left => ("on the left", "mesh_position_x", ""),
+        Side::Right => ("on the right", "mesh_position_x", ", or set machine_width"),
+        Side::Front => ("in front", "mesh_position_y", ""),
+        Side::Back => ("behind", "mesh_position_y", ", or set machine_depth"),
+        Side::Below => ("below", "mesh_position_z", ""),
+        Side::Above => ("above", "mesh_position_z", ", or set machine_height"),
+    }
+}
+
+fn push_outside_advice(
+    text: &mut Vec<u8>,
+    items: &[Item],
+    mesh: u8,
+    excess: Excess,
+) -> Result<(), NoMemory> {
+    let (side, position, more) = side_texts(excess.side);
+    push(text, b"advice: ")?;
+    push_mesh(text, items, mesh)?;
+    push(text, b" is outside by ")?;
+    push_mm(text, excess.by.unsigned_abs())?;
+    push(text, b" mm ")?;
+    push(text, side.as_bytes())?;
+    push(text, b": move it by -s center_object=true or ")?;
+    push(text, position.as_bytes())?;
+    push(text, b" behind it")?;
+    push(text, more.as_bytes())?;
+    push(text, b"\n")
+}
+
 // ---- all
 
 // Puts a line of advice on a file.
@@ -298,13 +345,9 @@ pub(crate) fn push_advice(
             "is ",
             " an ASCII STL in mm? A binary one whose header begins with solid has no facet here",
         ),
-        Refusal::OutsideVolume { mesh, .. } => push_mesh_line(
-            text,
-            items,
-            *mesh,
-            "move ",
-            " by -s center_object=true behind it, or set machine_width, machine_depth and machine_height",
-        ),
+        Refusal::OutsideVolume { mesh, excess, .. } => {
+            push_outside_advice(text, items, *mesh, *excess)
+        }
         Refusal::NoLayers => push_line(
             text,
             "are the meshes in mm? None reaches above half of layer_height_0",

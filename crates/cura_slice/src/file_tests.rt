@@ -68,6 +68,12 @@ fn a_plate_is_the_same_file_by_one_thread_or_many(rt: HostRuntime) -> Result<(),
             assert!(rt; ended.sink.bytes() == PLATE_FILE, "{command}");
             assert!(rt; ended.sink.held_at_end() == 672 && ended.sink.ends() == 1);
             assert!(rt; ended.run.journal.len() == events, "{command}");
+            let totals = ended.run.totals;
+            assert!(rt; totals.time == 7_329_689, "{command}");
+            assert!(rt;
+                totals.filaments == [651_899, 0, 0, 0, 0, 0, 0, 0],
+                "{command}"
+            );
         }
     }
     Ok(())

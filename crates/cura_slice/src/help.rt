@@ -122,8 +122,10 @@ On standard error:
 advice: <what>
     What to do about the error above it.
 note: <key> has no effect
-    No setting has that key, or it was given for what it can't be given for. See:
-    cura_slice --help settings.
+    No setting has that key, or it was given for what it can't be given for, by a word or
+    in a settings file. See: cura_slice --help settings.
+note: and <n> more have no effect
+    Of many keys 20 are told.
 warning: outlines that stayed open and were left out: <n>
     A mesh has holes: outlines with gaps of over 10 mm aren't printed. Mend the mesh, or
     export it anew. The file's line ;OPEN_OUTLINES:<n> tells the same.
@@ -131,7 +133,8 @@ warning: layers on which nothing is printed: <n> of <n>
     No mesh has a wall, skin or fill there: it is open there, or thinner than a line is
     wide (wall_line_width), or doesn't reach there. Look at the file before it is printed.
 totals: <what>
-    Told with -v.
+    Told with -v: layers and outlines, and of a file that was written the estimated time
+    and the filament of each extruder. What the filament weighs isn't known.
 ";
 
 // The second line is the toolchain's own name of itself, by which the program was proved.

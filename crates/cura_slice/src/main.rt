@@ -22,6 +22,7 @@ mod mesh_tests;
 mod notes;
 #[cfg(test)]
 mod notes_tests;
+mod noting;
 #[cfg(test)]
 mod preheat_tests;
 mod progress;
@@ -51,15 +52,15 @@ fn main(rt: HostRuntime) -> ExitCode {
         Err(_) => false,
     };
     let gate = Progress::of(rt.alloc(), rt.stderr(), is_shown);
-    let mut shelf = DirShelf::of(&rt);
+    let shelf = DirShelf::of(&rt);
     let sink = FileSink::of(&rt);
     let mut console = OutSink::of(io::writer(&rt));
     let mut notes = OutSink::of(rt.stderr());
-    let (status, _sink) = run(
+    let (status, _sink, _shelf) = run(
         &rt,
         rt.alloc(),
         words,
-        &mut shelf,
+        shelf,
         sink,
         &mut console,
         &mut notes,

@@ -1,6 +1,8 @@
 // What standard error gets, beside what standard output gets.
 
 use crate::boxes::{Block, OUTWARD, PLATE};
+use crate::file_tests::ONE_WALL;
+use crate::preheat_tests::BESIDE;
 use crate::running::run;
 use outside::{MemShelf, MemSink, NoGate};
 use slice_base::Text;
@@ -20,6 +22,10 @@ const WIDE: Block<'static> = Block {
     low: ["70", "70", "0"],
     high: ["130", "130", "0.5"],
 };
+
+// A settings file with a key that is mistyped, one that stands in a wrong object, and one of another slicer.
+const TYPED: &[u8] = br#"{"version":2,"global":{"support_enable":true,"layer_hieght":0.3},
+"meshes":[{"layer_height":"0.3","layer_hieght":0.3}]}"#;
 
 // What a run told: its status, and what the console and the notes got.
 #[derive(Drop)]
@@ -57,15 +63,15 @@ fn run_with_notes<R: Threads + Wait + Sync>(
     if let Some(call) = failing {
         calls.push(call)?;
     }
-    let mut shelf = shelf_of(alloc, files)?;
+    let shelf = shelf_of(alloc, files)?;
     let sink = MemSink::of(alloc, 1000, 100_000, Vec::new(alloc))?;
     let mut console = MemSink::of(alloc, 1000, 10_000, Vec::new(alloc))?;
     let mut notes = MemSink::of(alloc, 7, 10_000, calls)?;
-    let (status, _sink) = run(
+    let (status, _sink, _shelf) = run(
         rt,
         alloc,
         Ok(words),
-        &mut shelf,
+        shelf,
         sink,
         &mut console,
         &mut notes,
@@ -129,7 +135,7 @@ const WORD_ROWS: [Row; 12] = [
     ),
 ];
 
-const JOB_ROWS: [Row; 15] = [
+const JOB_ROWS: [Row; 18] = [
     (
         "check -l u",
         "advice: is there a file 'u' here, and may it be read?\n",
@@ -168,11 +174,15 @@ const JOB_ROWS: [Row; 15] = [
     ),
     (
         "check -l out",
-        "advice: move out by -s center_object=true behind it, or set machine_width, machine_depth and machine_height\n",
+        "advice: out is outside by 10.000 mm on the right: move it by -s center_object=true or mesh_position_x behind it, or set machine_width\n",
+    ),
+    (
+        "check -l t -s mesh_position_y=-100.02 -s mesh_position_z=-0.5",
+        "advice: t is outside by 10.020 mm in front: move it by -s center_object=true or mesh_position_y behind it\n",
     ),
     (
         "check -l out -s machine_widht=300",
-        "advice: move out by -s center_object=true behind it, or set machine_width, machine_depth and machine_height
+        "advice: out is outside by 10.000 mm on the right: move it by -s center_object=true or mesh_position_x behind it, or set machine_width
 note: 'machine_widht' has no effect: is machine_width meant?\n",
     ),
     (
@@ -181,9 +191,20 @@ note: 'machine_widht' has no effect: is machine_width meant?\n",
     ),
     (
         "check -s support_enable=true -l t -s support_enable=false -s layer_height=0.1 -e0 -s extruder_nr=0",
-        "note: 'support_enable' has no effect
-note: 'layer_height' has no effect there: it is of the whole print, so put it before -l and -e, or behind -g
-note: 'extruder_nr' has no effect there: it is of a mesh, so put it behind its -l\n",
+        "note: 'layer_height' has no effect there: it is of the whole print, so put it before -l and -e, or behind -g
+note: 'extruder_nr' has no effect there: it is of a mesh, so put it behind its -l
+note: 'support_enable' has no effect\n",
+    ),
+    (
+        "check -s support_enable=true -j typed -l t",
+        "note: 'layer_hieght' has no effect: is layer_height meant?
+note: 'layer_height' has no effect in extruders and meshes: it is of the whole print
+note: 'support_enable' has no effect\n",
+    ),
+    (
+        "check -l t -j bad -s layer_hieght=1",
+        "advice: 'bad' has to be JSON with an object \"global\" (version 2) or \"settings\" (version 1)
+note: 'layer_hieght' has no effect: is layer_height meant?\n",
     ),
     (
         "check -l t -v",
@@ -196,13 +217,14 @@ note: 'extruder_nr' has no effect there: it is of a mesh, so put it behind its -
 fn each_refusal_has_a_line_of_advice(rt: HostRuntime) -> Result<(), Fail> {
     let plate = PLATE.text(rt.alloc(), None, OUTWARD)?;
     let out = OUT.text(rt.alloc(), None, OUTWARD)?;
-    let files: [(&str, &[u8]); 6] = [
+    let files: [(&str, &[u8]); 7] = [
         ("t", plate.as_bytes()),
         ("out", out.as_bytes()),
         ("bad", b"\x01\x02"),
         ("cut", b"solid a\nfacet normal 0 0 1\nouter\n"),
         ("empty", b"solid x"),
         ("set", br#"{"version":2,"global":{}}"#),
+        ("typed", TYPED),
     ];
     for rows in [WORD_ROWS.as_slice(), JOB_ROWS.as_slice()] {
         for (line, noted) in rows {
@@ -233,6 +255,32 @@ fn the_usage_is_told_where_help_is_wanted(rt: HostRuntime) -> Result<(), Fail> {
     Ok(())
 }
 
+// A profile has many keys of another slicer: 20 notes are told, and how many there are more.
+#[test]
+fn of_many_keys_the_first_are_told(rt: HostRuntime) -> Result<(), Fail> {
+    let plate = PLATE.text(rt.alloc(), None, OUTWARD)?;
+    let mut profile = String::from_str(rt.alloc(), "{\"version\":2,\"global\":{")?;
+    for i in 0..25u32 {
+        profile.push_str(format!(in rt.alloc(); "\"unknown_key_{i:02}\":0,")?.as_str())?;
+    }
+    profile.push_str("\"layer_hieght\":0}}")?;
+    let files = [("t", plate.as_bytes()), ("cura", profile.as_bytes())];
+    let told = run_with_notes(&rt, rt.alloc(), "check -l t -j cura -j cura", &files, None)?;
+    let mut noted = String::from_str(
+        rt.alloc(),
+        "note: 'layer_hieght' has no effect: is layer_height meant?\n",
+    )?;
+    for i in 0..19u32 {
+        noted.push_str(format!(in rt.alloc();
+            "note: 'unknown_key_{i:02}' has no effect\n"
+        )?.as_str())?;
+    }
+    noted.push_str("note: and 6 more have no effect\n")?;
+    assert!(rt; told.status == 0);
+    assert!(rt; told.notes.bytes() == noted.as_bytes());
+    Ok(())
+}
+
 // A plate with a hole in its side is sliced, and nothing of it is printed.
 #[test]
 fn an_empty_print_is_told(rt: HostRuntime) -> Result<(), Fail> {
@@ -251,6 +299,57 @@ warning: layers on which nothing is printed: 2 of 2
             assert!(rt; told.console.bytes().ends_with(b" 2 layers\n"), "{command}");
             assert!(rt; told.notes.bytes().len() == held, "{command}");
             assert!(rt; noted.starts_with(told.notes.bytes()), "{command}");
+        }
+    }
+    Ok(())
+}
+
+// Words behind `slice`, and the time and the filament of its job.
+const SPENT_ROWS: [Row; 3] = [
+    (
+        "-l t",
+        "totals: time 0 h 0 min 7 s
+totals: extruder 0, filament 6.519 mm
+",
+    ),
+    (
+        "-l wide -s speed_wall_0=0.1",
+        "totals: time 1 h 19 min 30 s
+totals: extruder 0, filament 19.823 mm
+",
+    ),
+    (
+        "-s machine_extruder_count=2 -l t -e1 -s material_flow=50 -l beside",
+        "totals: time 0 h 0 min 14 s
+totals: extruder 0, filament 6.519 mm
+totals: extruder 1, filament 3.259 mm
+",
+    ),
+];
+
+// The times and E of a plate's file; of a wide one, at 0.1 mm/s; of two plates, by two extruders, one with half the flow.
+#[test]
+fn time_and_filament_are_told(rt: HostRuntime) -> Result<(), Fail> {
+    let plate = PLATE.text(rt.alloc(), None, OUTWARD)?;
+    let beside = BESIDE.text(rt.alloc(), None, OUTWARD)?;
+    let wide = WIDE.text(rt.alloc(), None, OUTWARD)?;
+    let files = [
+        ("t", plate.as_bytes()),
+        ("beside", beside.as_bytes()),
+        ("wide", wide.as_bytes()),
+    ];
+    let all = b"totals: layers 2, of them empty 0, open outlines 0\n".as_slice();
+    for command in ["slice -v -o g ", "slice -v -o g -m1 ", "serial -v -o g "] {
+        for (words, spent) in SPENT_ROWS {
+            let mut line = String::from_str(rt.alloc(), command)?;
+            for part in [ONE_WALL, " ", words] {
+                line.push_str(part)?;
+            }
+            let told = run_with_notes(&rt, rt.alloc(), line.as_str(), &files, None)?;
+            let notes = told.notes.bytes();
+            assert!(rt; notes.starts_with(all), "{line}");
+            assert!(rt; notes.ends_with(spent.as_bytes()), "{line}");
+            assert!(rt; notes.len() == all.len() + spent.len(), "{line}");
         }
     }
     Ok(())

@@ -6,7 +6,7 @@ use crate::runs::{has, joined, run, with_files};
 use std::test::Fail;
 
 // A plate 30 mm beside the other.
-const BESIDE: Block<'static> = Block {
+pub(crate) const BESIDE: Block<'static> = Block {
     low: ["120", "90", "0"],
     high: ["140", "110", "0.5"],
 };
