@@ -1,5 +1,5 @@
 -- How a run ended, and what is told of it.
-use Rattle.std.proofs.Common.{ℕ, ◌≡◌, List, [], Bool, Option, Some, None, ◌⊎◌, inl, inr, Result, Ok, Err, refl, ap, subst, ◌∙◌, arith}
+use Rattle.std.proofs.Common.{ℕ, ◌≡◌, List, Bool, Option, Some, None, ◌⊎◌, inl, inr, Result, Ok, Err, refl, ap, subst, ◌∙◌, arith}
 use Rattle.std.specs.Prelude.{◌↔◌, ◌++◌, option_to_list}
 use Rattle.std.specs.List.{All}
 use Rattle.std.proofs.lemmas.List.Elements.{All-tail}

@@ -1,5 +1,5 @@
 -- What an output holds at the end of a ring.
-use Rattle.std.proofs.Common.{ℕ, ◌≡◌, ◌≤◌, ◌+◌, ◌<◌, ◌^◌, ◌⊎◌, inl, inr, Bool, true, false, List, [], ◌∷◌, ◌++◌, length, take, Option, Some, None, Result, Ok, Err, refl, sym, ap, subst, ◌∙◌, arith}
+use Rattle.std.proofs.Common.{ℕ, ◌≡◌, ◌≤◌, ◌<◌, ◌^◌, inl, inr, Bool, true, false, List, [], length, take, Option, Some, None, Result, Ok, Err, refl, sym, ap, subst, ◌∙◌, arith}
 use Rattle.std.proofs.Math.Seq.{take-length}
 use Rattle.slice_base.specs.Causes.{Rose, counted}
 use Rattle.slice_base.specs.Shapes.{Bytes}
@@ -12,13 +12,13 @@ use Rattle.ring_core.specs.declared.event.Cause.TheVariants as cause
 use Rattle.ring_core.specs.Core.{IsRun, reached}
 use Rattle.ring_core.specs.Laws.{backs, IsWhole}
 use Rattle.gcode_write.specs.Writing.{Began}
-use Rattle.plan_buffer.specs.Streams.{Broken, Streamed}
+use Rattle.plan_buffer.specs.Streams.{Streamed}
 use Rattle.plan_buffer.specs.Accepted.{Past, HasAccepted, Finished, BrokeOff}
 use Rattle.slice_engine.specs.declared.writing.Stop.{Stop}
 use Rattle.slice_engine.specs.declared.writing.Stop.TheVariants.{Memory, Write}
 use Rattle.print_totals.specs.Spending.{SpentValue, HasSpent}
 use Rattle.slice_engine.specs.Files.{plans_of, job_file, job_text, BrokenOff, CutShort}
-use Rattle.slice_engine.specs.Journals.{IsFullRun, RanToFailure, RanOutOfMemory, CutShortWide}
+use Rattle.slice_engine.specs.Journals.{IsFullRun, RanOutOfMemory, CutShortWide}
 use Rattle.slice_engine.specs.Inner.Feeding.{past_of, Flushed, fed_by}
 use Rattle.slice_engine.specs.Inner.Ringing.{FeederValue, HasFed}
 use Rattle.slice_engine.specs.Inner.Slicing.{WroteWide}

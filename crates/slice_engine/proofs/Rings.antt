@@ -1,5 +1,5 @@
 -- Feeders of a ring.
-use Rattle.std.proofs.Common.{ℕ, ◌≡◌, ◌≤◌, ◌<◌, ◌+◌, List, ◌∷◌, [], ◌++◌, length, take, refl, sym, ap, subst, ◌∙◌, arith}
+use Rattle.std.proofs.Common.{ℕ, ◌≡◌, ◌≤◌, ◌<◌, ◌+◌, ◌∷◌, [], ◌++◌, length, ◌∙◌, arith}
 use Rattle.slice_base.specs.Shapes.{Bytes}
 use Rattle.outside.specs.Output.{Output}
 use Rattle.plan_types.specs.Jobs.{JobValue}
@@ -7,7 +7,6 @@ use Rattle.plan_types.specs.Plans.{LayerPlanValue}
 use Rattle.layer_plan.specs.Plan.{plan_of}
 use Rattle.plan_buffer.specs.Accepted.{Past, HasAccepted}
 use Rattle.plan_buffer.specs.Buffers.{BufferValue}
-use Rattle.slice_engine.specs.Files.{plans_of}
 use Rattle.slice_engine.specs.Inner.Feeding.{past_of}
 use Rattle.slice_engine.specs.Inner.Ringing.{HasFed}
 use Rattle.slice_engine.proofs.Streams.{fed_more, take_count}

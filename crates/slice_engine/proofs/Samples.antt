@@ -1,5 +1,5 @@
 -- Generated plates.
-use Rattle.std.proofs.Common.{◌≡◌, ◌⊎◌, inl, inr, Result, Ok, Err, refl, sym, ap, ◌∙◌, subst}
+use Rattle.std.proofs.Common.{◌≡◌, ◌⊎◌, inl, inr, Result, Err, sym, ap, ◌∙◌, subst}
 use Rattle.answers.specs.declared.refusal.Refusal.{Refusal}
 use Rattle.answers.specs.declared.refusal.Refusal.TheVariants as refusal
 use Rattle.plate_input.specs.declared.faults.PlateFault.{PlateFault}

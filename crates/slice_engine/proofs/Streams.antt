@@ -1,12 +1,11 @@
 -- What an output holds of a job's file once some of its plans were accepted.
-use Rattle.std.proofs.Common.{ℕ, ◌≡◌, ◌≤◌, ◌+◌, ◌-◌, ◌<◌, ◌⊎◌, inl, inr, Bool, true, false, List, [], ◌∷◌, ◌++◌, length, map, take, drop, Option, Some, None, Result, Ok, Err, refl, sym, ap, subst, ◌∙◌, arith}
-use Rattle.std.specs.List.{range_with_len}
+use Rattle.std.proofs.Common.{ℕ, ◌≡◌, ◌≤◌, ◌+◌, ◌-◌, ◌<◌, inl, Bool, true, false, List, [], ◌∷◌, ◌++◌, length, take, Option, Result, Ok, Err, refl, sym, ap, subst, ◌∙◌, arith}
 use Rattle.std.proofs.lemmas.List.FromFn.{length-map-range_with_len, take-map-range_with_len, map-range_with_len_more}
 use Rattle.std.proofs.lemmas.List.{append-nil}
 use Rattle.slice_base.specs.Causes.{counted}
 use Rattle.slice_base.specs.Shapes.{Bytes}
 use Rattle.outside.specs.declared.pens.Pen.{Pen}
-use Rattle.outside.specs.Holding.{GainedFront, emptied_of, filled_of}
+use Rattle.outside.specs.Holding.{GainedFront, emptied_of}
 use Rattle.outside.specs.Output.{Output}
 use Rattle.outside.specs.Pens.{bytes_after}
 use Rattle.plan_types.specs.Jobs.{JobValue}

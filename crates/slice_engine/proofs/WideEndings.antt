@@ -1,5 +1,5 @@
 -- How a run of many workers ended, and what is told of it.
-use Rattle.std.proofs.Common.{ℕ, ◌≡◌, List, [], Bool, false, length, Option, Some, None, ◌⊎◌, inl, inr, Result, Ok, Err, refl, sym, ap, subst, ◌∙◌, arith}
+use Rattle.std.proofs.Common.{ℕ, ◌≡◌, List, Bool, Option, Some, None, ◌⊎◌, inl, inr, Result, Ok, Err, refl, sym, ap, subst, arith}
 use Rattle.slice_base.specs.Causes.{Rose, counted}
 use Rattle.slice_base.specs.Shapes.{Bytes}
 use Rattle.outside.specs.Files.{Files}

@@ -1,5 +1,5 @@
 -- What an answer says of the shelf, the output and the console.
-use Rattle.std.specs.Prelude.{ℕ, ◌≡◌, ◌⊎◌, Bool, true, false, cond, List, [], ◌++◌, length, Option, Some, None, Result, Ok, Err}
+use Rattle.std.specs.Prelude.{ℕ, ◌≡◌, ◌⊎◌, Bool, false, cond, List, [], ◌++◌, length, Option, Some, None, Result, Ok, Err}
 use Rattle.slice_base.specs.Causes.{counted}
 use Rattle.slice_base.specs.Shapes.{Bytes}
 use Rattle.outside.specs.Files.{Files}

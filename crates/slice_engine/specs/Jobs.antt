@@ -1,5 +1,5 @@
 -- What words and files define: a job, or its first refusal.
-use Rattle.std.specs.Prelude.{ℕ, ◌≡◌, ◌⊎◌, List, [], ◌∷◌, Option, Some, None, Result, Ok, Err, codes}
+use Rattle.std.specs.Prelude.{ℕ, ◌≡◌, ◌⊎◌, List, [], ◌∷◌, Option, Result, Ok, Err, codes}
 use Rattle.settings_core.specs.declared.pairs.Pair.{Pair}
 use Rattle.settings_core.specs.declared.pairs.Scope.TheVariants.{Global}
 use Rattle.settings_core.specs.declared.pairs.Given.TheVariants.{Words}

@@ -1,5 +1,5 @@
 -- What the workers of a slice did, and what the output holds of it.
-use Rattle.std.specs.Prelude.{ℕ, ◌≡◌, ◌⊎◌, true, List, [], length, Some, None, Result, Ok, Err}
+use Rattle.std.specs.Prelude.{ℕ, ◌≡◌, ◌⊎◌, true, List, [], length, Some, None}
 use Rattle.slice_base.specs.Causes.{Rose, counted}
 use Rattle.slice_base.specs.Shapes.{Bytes}
 use Rattle.outside.specs.Holding.{GainedFront, emptied_of}

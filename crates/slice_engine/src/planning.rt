@@ -1,6 +1,6 @@
 // Works out the job that a task and its files define, or that a number draws.
 
-ghost use Rattle.std.specs.Prelude.{◌≡◌, ◌≤◌, ◌⊎◌, ◌∷◌, [], ℕ, Ok, Err, IfOk, IfErr, length};
+ghost use Rattle.std.specs.Prelude.{◌≡◌, ◌≤◌, ◌<◌, ◌⊎◌, ◌∷◌, [], ℕ, Ok, Err, IfOk, IfErr, length};
 ghost use Rattle.std.specs.List.{All, sum_by};
 ghost use Rattle.std.specs.Str.{IsUtf8};
 ghost use Rattle.answers.specs.declared.refusal.Refusal.TheVariants as refusal;

@@ -74,8 +74,8 @@ impl<'a, S: Sink> Planner for Plans<'a, S> {
     }
 }
 
-/// Writes a job's plans through a buffer, and adds up what they take. Also where a write failed its sink has that name, was begun once, and holds
-/// a front of the file.
+/// Writes a job's plans through a buffer, and adds up what they take. Also where a write failed its sink has that name,
+/// was begun once, and holds a front of the file.
 pub(crate) struct Feeder<'a, S: Sink> {
     job: &'a Job,
     name: Snapshot<Text>,

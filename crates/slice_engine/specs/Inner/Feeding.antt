@@ -1,5 +1,5 @@
 -- A buffer that is fed the plans of a job.
-use Rattle.std.specs.Prelude.{ℕ, ◌≡◌, ◌≤◌, true, false, List, take, length, Option, Some, None, Result, Ok, Err}
+use Rattle.std.specs.Prelude.{ℕ, ◌≡◌, ◌≤◌, true, false, take, length, Option, Some, None, Result, Ok, Err}
 use Rattle.slice_base.specs.Shapes.{Bytes}
 use Rattle.outside.specs.Output.{Output}
 use Rattle.answers.specs.declared.refusal.Refusal.{Refusal}

@@ -1,5 +1,5 @@
 -- Plates on the way to their jobs.
-use Rattle.std.specs.Prelude.{ℕ, ◌≡◌, length, Result, Ok, Err}
+use Rattle.std.specs.Prelude.{ℕ, ◌≡◌, length, Ok, Err}
 use Rattle.std.specs.List.{sum_by}
 use Rattle.answers.specs.declared.refusal.Refusal.{Refusal}
 use Rattle.plate_input.specs.Values.{PlateValue}

@@ -1,5 +1,5 @@
 -- A file that many workers planned.
-use Rattle.std.specs.Prelude.{ℕ, ◌≡◌, List, length, Result, Ok, Err}
+use Rattle.std.specs.Prelude.{ℕ, List, length, Result, Ok, Err}
 use Rattle.slice_base.specs.Shapes.{Bytes}
 use Rattle.outside.specs.Output.{Output}
 use Rattle.plan_types.specs.Jobs.{JobValue}

@@ -1,6 +1,6 @@
 use Rattle.std.proofs.Common.{◌∷◌, [], subst}
 use Rattle.plate_input.specs.Plate.{MakesPlate, UnlessNoMemory}
-use Rattle.slice_engine.specs.Jobs.{SamplePlate, sample_pairs, sample_texts}
+use Rattle.slice_engine.specs.Jobs.{SamplePlate, sample_texts}
 use Rattle.slice_engine.proofs.Samples.{not_made}
 use Rattle.slice_engine.proofs.planning.sample_plate.Goals as goal
 

@@ -1,11 +1,9 @@
 use denote.Param.Send.{sendable}
-use Rattle.std.proofs.Common.{rules, ◌≡◌, ◌<◌, ◌^◌, ◌%◌, inl, refl, sym, ap, subst, ◌∙◌, arith, [], length}
-use Rattle.ring_core.specs.declared.event.Event.{Event}
+use Rattle.std.proofs.Common.{rules, ◌≡◌, ◌<◌, ◌^◌, inl, sym, ap, subst, ◌∙◌, length}
 use Rattle.ring_core.specs.Core.{IsRun}
-use Rattle.slice_engine.specs.Files.{BrokenOff}
 use Rattle.slice_engine.proofs.Streams.{unbegun}
 use Rattle.slice_engine.proofs.Crossing.{plans_sync, feeder_send}
-use Rattle.slice_engine.proofs.RingEnds.{RingEnd, ended_wide, spent_wide, unmade_wide}
+use Rattle.slice_engine.proofs.RingEnds.{ended_wide, spent_wide, unmade_wide}
 use Rattle.slice_engine.proofs.slicing.write_wide.Goals as goal
 
 pub returns-in-Err-clause-wrote : goal.returns-in-Err-clause-wrote
@@ -50,7 +48,7 @@ returns-clause-wrote g c =
     let name_is : f.name ≡ c.args.name = ap (λ n. n.name) unmade.0 ∙ c.of.ensures in
     let before_is : f.before ≡ c.args.sink = ap (λ n. n.before) unmade.0 ∙ c.of-2.ensures in
     unmade_wide output f c.args.job.now c.args.name c.args.sink c.args.workers c.new-in-Err-run_ring.result.items c.into_sink.result c.texts_rest_on_plans.ensures.written job_is name_is before_is
-    c.new-in-Err-run_ring.ensures.items (c.into_sink.ensures ∙ ap (λ b. b.pen.sink) c.into_parts.ensures.buffer) (sym (ap (λ b. b.job) c.into_parts.ensures.buffer) ∙ c.into_parts.ensures.fed.job_is) c.writes_a_front.ensures.front unmade.2
+    c.new-in-Err-run_ring.ensures.items (c.into_sink.ensures ∙ ap (λ b. b.pen.sink) c.into_parts-buffer.ensures.buffer) (sym (ap (λ b. b.job) c.into_parts-buffer.ensures.buffer) ∙ c.into_parts-buffer.ensures.fed.job_is) c.writes_a_front.ensures.front unmade.2
 
 pub returns-in-Ok-run_ring-clause-spent : goal.returns-in-Ok-run_ring-clause-spent
 returns-in-Ok-run_ring-clause-spent g c = λ ok.

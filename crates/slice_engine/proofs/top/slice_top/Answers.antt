@@ -1,4 +1,4 @@
-use Rattle.std.proofs.Common.{rules, map, string_bytes, Some, None, Option, Result, List, ap, sym, subst, ◌≡◌, ◌⊎◌, ◌∙◌}
+use Rattle.std.proofs.Common.{rules, map, string_bytes, Some, None, Option, List, ap, sym, subst, ◌≡◌, ◌⊎◌, ◌∙◌}
 use Rattle.answers.specs.declared.refusal.Refusal.{Refusal}
 use Rattle.answers.specs.declared.refusal.Refusal.TheVariants as refusal
 use Rattle.cli_words.specs.Command.{command_of}

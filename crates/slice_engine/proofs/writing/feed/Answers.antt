@@ -1,4 +1,4 @@
-use Rattle.std.proofs.Common.{rules, arith, ◌≡◌, ◌≤◌, ◌<◌, ◌∙◌, ◌+◌, length, false, true, sym}
+use Rattle.std.proofs.Common.{rules, arith, ◌≡◌, ◌≤◌, ◌<◌, ◌∙◌, ◌+◌, length, true}
 use Rattle.slice_engine.proofs.Streams.{fed_more, fed_short, fed_broken, fed_all}
 use Rattle.slice_engine.proofs.Spendings.{spent_next, spent_count, spent_all}
 use Rattle.slice_engine.proofs.writing.feed.Goals as goal

@@ -1,4 +1,4 @@
-use Rattle.std.proofs.Common.{◌≡◌, ◌≤◌, false, take}
+use Rattle.std.proofs.Common.{◌≡◌, false, take}
 use Rattle.slice_base.specs.Shapes.{Bytes}
 use Rattle.outside.specs.Output.{Output}
 use Rattle.plan_buffer.specs.Accepted.{HasAccepted}

@@ -1,6 +1,4 @@
-use Rattle.std.proofs.Common.{◌≡◌, ◌∙◌, ap, sym, subst, refl, false, Ok, Err}
-use Rattle.slice_base.specs.Shapes.{Bytes}
-use Rattle.outside.specs.Output.{Output}
+use Rattle.std.proofs.Common.{◌∙◌, ap, sym, subst}
 use Rattle.plan_types.specs.Jobs.{JobValue}
 use Rattle.gcode_write.specs.Ends.{header_of, start_of}
 use Rattle.plan_buffer.specs.Streams.{Streamed}
@@ -41,3 +39,6 @@ returns-in-Ok-clause-bytes g c = λ ok.
 pub returns-in-Ok-clause-spent : goal.returns-in-Ok-clause-spent
 returns-in-Ok-clause-spent g c = λ ok.
     c.feed-fed.ensures.spent (wrote_fed c.feed-fed.result c.flush-wrote.result (λ stop is. (c.flush-wrote.ensures.stopped stop is).0) ok)
+
+pub feed-fed-requires-clause-unspent : goal.feed-fed-requires-clause-unspent
+feed-fed-requires-clause-unspent g c = c.new-spent.ensures c.args.job.now

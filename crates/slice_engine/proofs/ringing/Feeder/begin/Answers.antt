@@ -1,4 +1,4 @@
-use Rattle.std.proofs.Common.{◌≡◌, ◌∙◌, ap, sym, subst, false}
+use Rattle.std.proofs.Common.{◌∙◌, ap, sym, subst}
 use Rattle.plan_types.specs.Jobs.{JobValue}
 use Rattle.gcode_write.specs.Ends.{header_of, start_of}
 use Rattle.plan_buffer.specs.Streams.{Streamed}

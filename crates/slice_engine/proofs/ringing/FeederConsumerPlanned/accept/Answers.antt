@@ -1,4 +1,4 @@
-use Rattle.std.proofs.Common.{◌≡◌, ◌≤◌, ◌<◌, ◌∙◌, List, [], ◌∷◌, ◌++◌, length, ap, sym, subst, arith}
+use Rattle.std.proofs.Common.{◌≡◌, ◌≤◌, ◌<◌, ◌∙◌, List, [], ◌∷◌, ◌++◌, length, ap, sym, arith}
 use Rattle.plan_types.specs.Plans.{LayerPlanValue}
 use Rattle.layer_plan.specs.Plan.{plan_of}
 use Rattle.print_totals.specs.Spending.{HasSpent}
@@ -57,7 +57,7 @@ returns-clause-ok g c = λ more.
     let next = rw (← c.self.view_is) at c.requires.next in
     let planned = rw (← c.self.view_is) at c.requires.plan in
     let is : c.plan.inside.plan ≡ plan_of f.job.now c.args._layer = ap (λ p. p.plan) c.plan.view_is ∙ ap (λ p. p.plan) planned in
-    let added : (ls : List LayerPlanValue) → HasSpent f.job.now ls f.spent → HasSpent f.job.now (ls ++ c.plan.inside.plan ∷ []) c.add.new.self = rw c.job.view_is at c.add.ensures in (
+    let added : (ls : List LayerPlanValue) → HasSpent f.job.now ls f.spent → HasSpent f.job.now (ls ++ c.plan.inside.plan ∷ []) c.add.new.self = c.add.ensures in (
       c.accept.ensures.failed ∙ sym c.is_err.ensures.value ∙ c.if-is_err.false,
       fed_more g.S.Sink.output f.job.now f.name.value (g.S.Sink.output f.before.value) c.args._layer c.plan.inside.plan f.buffer c.accept.new.self within is c.accept.ensures.accepted (next le).1,
       spent_next f.job.now c.args._layer c.plan.inside.plan f.spent c.add.new.self within is added (next le).2,
