@@ -29,7 +29,7 @@ fn named_in(alloc: Global, items: &[Item]) -> Result<Named, NoMemory> {
 }
 
 // What the words name; nothing where they are no command, or memory runs out.
-fn named(alloc: Global, words: &[String]) -> Named {
+fn named_by(alloc: Global, words: &[String]) -> Named {
     if let Ok(command) = read_words(alloc, words) {
         if let Ok(named) = named_in(alloc, items_in(&command)) {
             return named;
@@ -54,7 +54,7 @@ impl<Sh: Shelf> NotingShelf<Sh> {
     {
         NotingShelf {
             shelf,
-            named: named(alloc, words),
+            named: named_by(alloc, words),
         }
     }
 
