@@ -76,7 +76,7 @@ built() {
     if [ -n "$prepares" ]; then exit 0; fi
 }
 
-# runs PROGRAM..: runs these in turns, three times or `$rounds`; prints their lines, each with the least of its last words.
+# runs PROGRAM..: runs these in turns, three times or `$rounds`; prints their lines, with the least of each last word.
 runs() {
     local round it
     for round in $(seq "${rounds:-3}"); do
