@@ -3,8 +3,8 @@
 
 ghost use Rattle.std.specs.List.{All};
 ghost use Rattle.std.specs.Prelude.{◌≡◌, ◌+◌, ◌≤◌, ◌<◌, ◌^◌, ◌++◌, ◌&&◌, [], length, drop, OnOk, IfOk, int_le, int_lt, ◌+ℤ◌};
-ghost use Rattle.clip_bands.specs.Places.{touches, holds, places};
-ghost use Rattle.clip_bands.specs.Inner.Blocks.{place_if, Covers, IsHull, Hulls, FindsBlock};
+ghost use Rattle.clip_bands.specs.Indices.{touches, holds, indices};
+ghost use Rattle.clip_bands.specs.Inner.Blocks.{index_if, Covers, IsHull, Hulls, FindsBlock};
 
 use std::alloc::{AllocError, AllocFailed, Global};
 use std::marker::Model;
@@ -123,13 +123,13 @@ fn blocks_of(alloc: Global, spans: &[Span]) -> Result<Vec<Span>, NoMemory>
     Ok(blocks)
 }
 
-// Puts down a place that passed.
-fn push_if(found: &mut Vec<u32>, passed: bool, place: usize) -> Result<(), NoMemory>
-    requires { place < 2 ^ 32 }
-    ensures { OnOk result (found.new.items ≡ found.old.items ++ place_if passed place) }
+// Puts down an index that passed.
+fn push_if(found: &mut Vec<u32>, passed: bool, index: usize) -> Result<(), NoMemory>
+    requires { index < 2 ^ 32 }
+    ensures { OnOk result (found.new.items ≡ found.old.items ++ index_if passed index) }
 {
     if passed {
-        found.push(place as u32)?;
+        found.push(index as u32)?;
     }
     Ok(())
 }
@@ -185,8 +185,8 @@ fn find_across(
 fn near_in(alloc: Global, spans: &[Span], blocks: &[Span], span: Span) -> Result<Vec<u32>, NoMemory>
     requires few { length spans.now < 2 ^ 32 }
     requires hulls { Hulls spans.now blocks.now }
-    ensures exact { IfOk result (λ found. found.items ≡ places (touches span) spans.now) }
-    ensures below { IfOk result (λ found. All (λ place. place < length spans.now) found.items) }
+    ensures exact { IfOk result (λ found. found.items ≡ indices (touches span) spans.now) }
+    ensures below { IfOk result (λ found. All (λ index. index < length spans.now) found.items) }
     ensures few { IfOk result (λ found. length found.items ≤ length spans.now) }
 {
     let mut found = Vec::new(alloc);
@@ -204,8 +204,8 @@ fn across_in(
 ) -> Result<Vec<u32>, NoMemory>
     requires few { length spans.now < 2 ^ 32 }
     requires hulls { Hulls spans.now blocks.now }
-    ensures exact { IfOk result (λ found. found.items ≡ places (holds at.twice) spans.now) }
-    ensures below { IfOk result (λ found. All (λ place. place < length spans.now) found.items) }
+    ensures exact { IfOk result (λ found. found.items ≡ indices (holds at.twice) spans.now) }
+    ensures below { IfOk result (λ found. All (λ index. index < length spans.now) found.items) }
     ensures few { IfOk result (λ found. length found.items ≤ length spans.now) }
 {
     let mut found = Vec::new(alloc);
@@ -228,20 +228,20 @@ impl Bands {
         })
     }
 
-    /// The places of all spans that share a number with `span`, rising.
+    /// The indices of all spans that share a number with `span`, rising.
     pub fn near(&self, alloc: Global, span: Span) -> Result<Vec<u32>, NoMemory>
-        ensures exact { IfOk result (λ found. found.items ≡ places (touches span) self.now) }
-        ensures below { IfOk result (λ found. All (λ place. place < length self.now) found.items) }
+        ensures exact { IfOk result (λ found. found.items ≡ indices (touches span) self.now) }
+        ensures below { IfOk result (λ found. All (λ index. index < length self.now) found.items) }
         ensures few { IfOk result (λ found. length found.items ≤ length self.now) }
     {
         near_in(alloc, self.spans.as_slice(), self.blocks.as_slice(), span)
     }
 
-    /// The places of all spans with `2 * low <= twice < 2 * high`, rising: those that hold the height of
+    /// The indices of all spans with `2 * low <= twice < 2 * high`, rising: those that hold the height of
     /// which `twice` is the double, their upper ends left out.
     pub fn across(&self, alloc: Global, twice: i64) -> Result<Vec<u32>, NoMemory>
-        ensures exact { IfOk result (λ found. found.items ≡ places (holds twice) self.now) }
-        ensures below { IfOk result (λ found. All (λ place. place < length self.now) found.items) }
+        ensures exact { IfOk result (λ found. found.items ≡ indices (holds twice) self.now) }
+        ensures below { IfOk result (λ found. All (λ index. index < length self.now) found.items) }
         ensures few { IfOk result (λ found. length found.items ≤ length self.now) }
     {
         across_in(

@@ -17,7 +17,7 @@ use Rattle.clip_core.specs.Windings.{none, plus, reaches, stands_right}
 use Rattle.clip_core.specs.Inner.Rays.{no_ray, twice_middle, ray_with}
 use Rattle.clip_core.specs.Inner.Hulls.{twice_across, misses, takes, IsIn, IsMore, IsHull, AreHulls}
 use Rattle.clip_core.specs.Inner.Raises.{lifted}
-use Rattle.clip_core.proofs.Rings.{diff_of, diff-eq, diff-add, diff-sub, diff-mul}
+use Rattle.slice_base.proofs.Rings.{diff_of, diff-eq, diff-add, diff-sub, diff-mul}
 use Rattle.clip_core.proofs.Signs.{Sign, sign, pp, pn, nn, np, z*, *z}
 use Rattle.clip_core.proofs.Tallies.{plus_assoc}
 use Rattle.clip_core.proofs.Shares.{missed, ray-same, any-default, below-or-not}
@@ -256,7 +256,7 @@ pub taken-ray : (f : Bundle) (s : Windings) (h : Hull) (by : Windings) (r : Ray)
 taken-ray f s h by r at is =
     let p = sym (missed r.net s (same_bundle f r.bundle) (takes-same f h r.bundle at is)) in
     let q = sym (plus_assoc r.sum by s) ∙ met (plus r.sum by) s (reaches f r.bundle && stands_right f r.bundle) (takes-meets f h r.bundle at is) in
-    λ i. record { bundle = r.bundle; place = r.place; net = p i; sum = q i }
+    λ i. record { bundle = r.bundle; index = r.index; net = p i; sum = q i }
 
 -- a box that has more has what the other has
 pub more-in : (g h : Hull) (b : Bundle) → IsMore g h → IsIn h b → IsIn g b
@@ -269,16 +269,16 @@ more-in g h b more at = record {
 
 -- boxes round stretches of rays
 
--- what a place past the end would read
+-- what an index past the end would read
 abbrev pub no_hull : Hull
 no_hull = record { low = pos 0; high = pos 0; left = pos 0; right = pos 0 }
 
-at-place : (h : Hull) (rays : List Ray) (i k : ℕ) (d : Ray) → i < length rays → k ≡ i → IsIn h (get_or rays i no_ray).bundle → IsIn h (get_or rays k d).bundle
-at-place h rays i k d inside same at =
+at-index : (h : Hull) (rays : List Ray) (i k : ℕ) (d : Ray) → i < length rays → k ≡ i → IsIn h (get_or rays i no_ray).bundle → IsIn h (get_or rays k d).bundle
+at-index h rays i k d inside same at =
     subst (λ (j : ℕ). IsIn h (get_or rays j d).bundle) (sym same) (subst (λ (r : Ray). IsIn h r.bundle) (any-default rays i no_ray d inside) at)
 
 pub hull-first : (h : Hull) (rays : List Ray) (from : ℕ) → from < length rays → IsIn h (get_or rays from no_ray).bundle → (k : ℕ) (d : Ray) → from ≤ k → k < from + 1 → IsIn h (get_or rays k d).bundle
-hull-first h rays from inside at k d le lt = at-place h rays from k d inside (omega arith) at
+hull-first h rays from inside at k d le lt = at-index h rays from k d inside (omega arith) at
 
 -- one ray more
 pub hull-more : (hull new h : Hull) (rays : List Ray) (from i : ℕ) → i < length rays → IsMore new hull → IsMore new h → IsIn h (get_or rays i no_ray).bundle → ((k : ℕ) (d : Ray) → from ≤ k → k < i → IsIn hull (get_or rays k d).bundle) → (k : ℕ) (d : Ray) → from ≤ k → k < i + 1 → IsIn new (get_or rays k d).bundle
@@ -286,7 +286,7 @@ hull-more hull new h rays from i inside first second at before k d le lt = pick 
   where
     pick : (k < i) ⊎ (i ≤ k) → IsIn new (get_or rays k d).bundle
     pick (inl g) = more-in new hull (get_or rays k d).bundle first (before k d le g)
-    pick (inr g) = at-place new rays i k d inside (omega arith) (more-in new h (get_or rays i no_ray).bundle second at)
+    pick (inr g) = at-index new rays i k d inside (omega arith) (more-in new h (get_or rays i no_ray).bundle second at)
 
 -- the box that is found for a stretch
 pub hull-at : (width : ℕ) (hulls : List Hull) (rays : List Ray) (i q end : ℕ) → AreHulls width hulls rays → width * q ≡ i → q < length hulls → i ≤ end → end ≤ i + width → IsHull (get_or hulls q no_hull) rays i (end - i)

@@ -1,4 +1,4 @@
--- Sums raised from a place on.
+-- Sums raised from an index on.
 use Rattle.std.proofs.Common.{◌≡◌, ◌<◌, ◌≤◌, ◌+◌, ℕ, zero, suc, ℤ, pos, ◌+ℤ◌, ◌-ℤ◌, List, [], ◌∷◌, length, get_or, set, arith, refl, sym, ap, ◌∙◌}
 use Rattle.std.specs.Prelude.{unsigned_abs}
 use Rattle.std.specs.List.{All}
@@ -54,7 +54,7 @@ pub raised-zero : (ws : List Windings) → raised ws zero ≡ none
 raised-zero [] = refl
 raised-zero (w ∷ ws) = refl
 
--- one place more
+-- one index more
 pub raised-next : (ws : List Windings) (k : ℕ) (d : Windings) → k < length ws → raised ws (suc k) ≡ plus (raised ws k) (get_or ws k d)
 raised-next [] k d below = absurd (omega arith)
 raised-next (x ∷ xs) zero d below = ap (λ (v : Windings). plus x v) (raised-zero xs) ∙ (plus-right x ∙ sym (plus-none x))
@@ -71,7 +71,7 @@ raised-none (w ∷ ws) zero h = refl
 raised-none (w ∷ ws) (suc k) h =
     ap (λ (v : Windings). plus v (raised ws k)) (All-head IsNone w ws h) ∙ (plus-none (raised ws k) ∙ raised-none ws k (All-tail IsNone w ws h))
 
--- of a stretch of places that was raised: before it
+-- of a stretch that was raised: before it
 pub raised-low : (ws : List Windings) (i j k : ℕ) (v w : Windings) → i < j → k ≤ i → raised (set (set ws i v) j w) k ≡ raised ws k
 raised-low ws i j k v w lt le = raised-before (set ws i v) j k w (omega arith) ∙ raised-before ws i k v le
 
@@ -112,7 +112,7 @@ small-less m n v w g h = record {
   second_small = abs-less v.second w.second m n g.second_small h.second_small;
 }
 
--- the sum of the raises, one place on
+-- the sum of the raises, one index on
 pub raises-step : (ws : List Windings) (k : ℕ) (by new : Windings) → k < length ws → by ≡ raised ws k → new ≡ plus by (get_or ws k none) → new ≡ raised ws (k + 1)
 raises-step ws k by new below is put =
     let next : suc k ≡ k + 1 = omega arith in

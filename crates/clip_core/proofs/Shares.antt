@@ -48,7 +48,7 @@ pub ray-same : (f : Bundle) (s : Windings) (r : Ray) → same_bundle f r.bundle 
 ray-same f s r g h =
     let p = sym (missed r.net s (same_bundle f r.bundle) g) in
     let q = sym (missed r.sum s (reaches f r.bundle && stands_right f r.bundle) h) in
-    λ i. record { bundle = r.bundle; place = r.place; net = p i; sum = q i }
+    λ i. record { bundle = r.bundle; index = r.index; net = p i; sum = q i }
 
 not-first : (a b : Bool) → a ≡ false → (a && b) ≡ false
 not-first false b h = refl
@@ -127,7 +127,7 @@ ray-wider n k r le h = record { net_small = wider n k r.net le h.net_small; sum_
 -- a ray with some of the edges, and those to come
 pub record IsSoFar (n : ℕ) (rest whole : List Marked) (bare r : Ray) : Type 0 where
   pub bundle : r.bundle ≡ bare.bundle
-  pub place : r.place ≡ bare.place
+  pub index : r.index ≡ bare.index
   pub net : plus r.net (tally_of (is_of bare.bundle) rest) ≡ net_of whole bare.bundle
   pub sum : plus r.sum (tally_of (is_right_of bare.bundle) rest) ≡ sum_of whole bare.bundle
   pub small : IsSmallRay n r
@@ -141,7 +141,7 @@ from-none w v is = ap (λ (u : Windings). plus u v) is ∙ plus-none v
 pub so_far-begins : (all : List Marked) (r : Ray) → IsBare r → IsSoFar 0 all all r r
 so_far-begins all r bare = record {
   bundle = refl;
-  place = refl;
+  index = refl;
   net = from-none r.net (net_of all r.bundle) bare.net_none;
   sum = from-none r.sum (sum_of all r.bundle) bare.sum_none;
   small = record { net_small = small-none r.net bare.net_none; sum_small = small-none r.sum bare.sum_none };
@@ -158,7 +158,7 @@ so_far-step all n bare r new f s below ef es small is h =
     let sum' : new.sum ≡ plus r.sum (cond (reaches f r.bundle && stands_right f r.bundle) (share_of m) none) = ap (λ (q : Ray). q.sum) is ∙ ap (λ (w : Windings). plus r.sum (cond (reaches f r.bundle && stands_right f r.bundle) w none)) es in
     record {
       bundle = ap (λ (q : Ray). q.bundle) is ∙ h.bundle;
-      place = ap (λ (q : Ray). q.place) is ∙ h.place;
+      index = ap (λ (q : Ray). q.index) is ∙ h.index;
       net = tally_of-step (is_of b) all n (same_bundle f r.bundle) r.net new.net (net_of all b) below of net' h.net;
       sum = tally_of-step (is_right_of b) all n (reaches f r.bundle && stands_right f r.bundle) r.sum new.sum (sum_of all b) below right sum' h.sum;
       small = subst (λ (q : Ray). IsSmallRay (n + 1) q) (sym is) (ray-small n f s r h.small small);
@@ -168,7 +168,7 @@ so_far-step all n bare r new f s below ef es small is h =
 pub so_far-ends : (all : List Marked) (n : ℕ) (bare r : Ray) → length all ≤ n → n ≤ 100000 → IsSoFar n (drop n all) all bare r → IsFull all bare r
 so_far-ends all n bare r over few h = record {
   bundle = h.bundle;
-  place = h.place;
+  index = h.index;
   net = tally_of-end (is_of bare.bundle) all n r.net (net_of all bare.bundle) over h.net;
   sum = tally_of-end (is_right_of bare.bundle) all n r.sum (sum_of all bare.bundle) over h.sum;
   small = ray-wider n 100000 r few h.small;
@@ -202,7 +202,7 @@ bare-from : (all bs : List Bundle) (i : ℕ) → drop i all ≡ bs → All (IsBa
 bare-from all [] i h = All-nil (IsBareOf all)
 bare-from all (b ∷ bs) i h =
     let at = head-at all bs b i h in
-    All-cons (IsBareOf all) (record { bundle = b; place = i; net = none; sum = none }) (rays_from (suc i) bs)
+    All-cons (IsBareOf all) (record { bundle = b; index = i; net = none; sum = none }) (rays_from (suc i) bs)
     (record { of_bundle = record { within = at.0; is = sym at.1 }; bare = record { net_none = refl; sum_none = refl } })
     (bare-from all bs (suc i) (tail-at all bs b i h))
 
@@ -213,8 +213,8 @@ bare-all bundles = bare-from bundles bundles 0 refl
 pub full-told : (all : List Marked) (bundles : List Bundle) (bare r : Ray) → IsBareOf bundles bare → IsFull all bare r → IsTold all bundles r
 full-told all bundles bare r g h = record {
   of_bundle = record {
-    within = subst (λ (p : ℕ). p < length bundles) (sym h.place) g.of_bundle.within;
-    is = h.bundle ∙ (g.of_bundle.is ∙ ap (λ (p : ℕ). get_or bundles p nowhere) (sym h.place));
+    within = subst (λ (p : ℕ). p < length bundles) (sym h.index) g.of_bundle.within;
+    is = h.bundle ∙ (g.of_bundle.is ∙ ap (λ (p : ℕ). get_or bundles p nowhere) (sym h.index));
   };
   net = h.net ∙ ap (λ (b : Bundle). net_of all b) (sym h.bundle);
   sum = h.sum ∙ ap (λ (b : Bundle). sum_of all b) (sym h.bundle);
@@ -225,12 +225,12 @@ pub length-rays : (i : ℕ) (bs : List Bundle) → length (rays_from i bs) ≡ l
 length-rays i [] = refl
 length-rays i (b ∷ bs) = ap suc (length-rays (suc i) bs)
 
-placed-from : (i k : ℕ) (bs : List Bundle) (d : Ray) → k < length bs → (get_or (rays_from i bs) k d).place ≡ i + k
+placed-from : (i k : ℕ) (bs : List Bundle) (d : Ray) → k < length bs → (get_or (rays_from i bs) k d).index ≡ i + k
 placed-from i k [] d below = absurd (omega arith)
 placed-from i zero (b ∷ bs) d below = omega arith
 placed-from i (suc k) (b ∷ bs) d below = let e = placed-from (suc i) k bs d (omega arith) in omega arith
 
-pub ray-placed : (k : ℕ) (bs : List Bundle) (d : Ray) → k < length bs → (k < length (rays_from 0 bs)) × ((get_or (rays_from 0 bs) k d).place ≡ k)
+pub ray-placed : (k : ℕ) (bs : List Bundle) (d : Ray) → k < length bs → (k < length (rays_from 0 bs)) × ((get_or (rays_from 0 bs) k d).index ≡ k)
 ray-placed k bs d below = let e = length-rays 0 bs in let f = placed-from 0 k bs d below in (omega arith, f ∙ zero-plus k)
   where
     zero-plus : (n : ℕ) → 0 + n ≡ n
@@ -283,4 +283,4 @@ each-has all bundles bare rays len moved full k d below =
     let c = Contains-permutation (rays_from 0 bundles) bare r moved there in
     let here : c.0 < length rays = omega (arith, c.1) in
     let f = full c.0 r here in
-    (c.0, here, ap (λ (q : Ray). q.place) (any-default rays c.0 d r here) ∙ (f.place ∙ (ap (λ (q : Ray). q.place) c.2 ∙ at.1)))
+    (c.0, here, ap (λ (q : Ray). q.index) (any-default rays c.0 d r here) ∙ (f.index ∙ (ap (λ (q : Ray). q.index) c.2 ∙ at.1)))

@@ -104,7 +104,7 @@ adds-taken f s hull i j rays raises some inside is h share =
 lifted-with : (f : Bundle) (s by : Windings) (r : Ray) → lifted by (ray_with f s r) ≡ ray_with f s (lifted by r)
 lifted-with f s by r =
     let q = moved r.sum (cond (meets_ray f r.bundle) s none) by in
-    λ i. record { bundle = r.bundle; place = r.place; net = plus r.net (cond (same_bundle f r.bundle) s none); sum = q i }
+    λ i. record { bundle = r.bundle; index = r.index; net = plus r.net (cond (same_bundle f r.bundle) s none); sum = q i }
 
 -- one ray
 pub adds-one : (f : Bundle) (s : Windings) (i : ℕ) (rays : List Ray) (raises : List Windings) (v e : Ray) → i < length rays → v ≡ ray_with f s (get_or rays i e) → AreSmall 1 s → Adds f s i (i + 1) rays raises (set rays i v) raises
@@ -189,7 +189,7 @@ raised-nothing : (rays : List Ray) (raises : List Windings) (k : ℕ) (d : Ray) 
 raised-nothing rays raises k d none' =
     let r = get_or rays k d in
     let e : r.sum ≡ plus r.sum (raised raises (suc k)) = sym (ap (λ (u : Windings). plus r.sum u) (raised-none raises (suc k) none') ∙ plus-right r.sum) in
-    λ i. record { bundle = r.bundle; place = r.place; net = r.net; sum = e i }
+    λ i. record { bundle = r.bundle; index = r.index; net = r.net; sum = e i }
 
 pub edges-begin : (all : List Marked) (rays : List Ray) (raises : List Windings) → All IsBare rays → All (λ w. w ≡ none) raises → (k : ℕ) (d : Ray) → k < length rays → IsSoFar 0 all all (get_or rays k d) (ray_at rays raises k d)
 edges-begin all rays raises bare none' k d below =

@@ -2,6 +2,6 @@
 pub mod Found
 pub mod Small
 pub mod Rays
-pub mod Placed
+pub mod Indexed
 pub mod Hulls
 pub mod Raises

@@ -1,4 +1,4 @@
-// Sums that are raised for a whole stretch of rays at once: a list says at each place by how much the sums
+// Sums that are raised for a whole stretch of rays at once: a list says at each index by how much the sums
 // from there on are greater.
 
 ghost use Rattle.std.specs.Prelude.{◌≡◌, ◌+◌, ◌-◌, ◌*◌, ◌<◌, ◌≤◌, ◌^◌, ℕ, suc, true, length, set, slice_index_or, IfOk};
@@ -35,13 +35,13 @@ fn less(m: Windings, n: Windings) -> Windings
     }
 }
 
-/// A list of this many places that raises nothing.
+/// A list of this length that raises nothing.
 pub(crate) fn no_raises(alloc: Global, count: usize) -> Result<Vec<Windings>, NoMemory>
     ensures count { IfOk result (λ raises. length raises.items ≡ count) }
     ensures flat { IfOk result (λ raises. All (λ w. w ≡ none) raises.items) }
 {
     let mut raises = Vec::new(alloc);
-    for place in 0..count {
+    for index in 0..count {
         raises.push(Windings {
             first: 0,
             second: 0,
@@ -71,7 +71,7 @@ fn lifted(by: Windings, r: Ray) -> Ray
 {
     Ray {
         bundle: r.bundle,
-        place: r.place,
+        index: r.index,
         net: r.net,
         sum: plus(r.sum, by),
     }

@@ -27,11 +27,11 @@ use slice_base::NoMemory;
 use std::alloc::Global;
 use std::cmp::Ordering;
 
-/// A bundle, its place among all bundles, its net counts and the winding sums at its midpoint.
+/// A bundle, its index among all bundles, its net counts and the winding sums at its midpoint.
 #[derive(Clone, Copy)]
 pub(crate) struct Ray {
     pub(crate) bundle: Bundle,
-    pub(crate) place: u32,
+    pub(crate) index: u32,
     pub(crate) net: Windings,
     pub(crate) sum: Windings,
 }
@@ -94,7 +94,7 @@ fn ray_with(m: Member, r: Ray) -> Ray
 {
     Ray {
         bundle: r.bundle,
-        place: r.place,
+        index: r.index,
         net: add_if(r.net, same_bundle(m.ends, r.bundle), m.share),
         sum: add_if(r.sum, meets_ray(m.ends, r.bundle), m.share),
     }
@@ -289,10 +289,10 @@ fn rays_from(alloc: Global, bundles: &[Bundle]) -> Result<Vec<Ray>, NoMemory>
         first: 0,
         second: 0,
     };
-    for place in 0..bundles.len() {
+    for index in 0..bundles.len() {
         rays.push(Ray {
-            bundle: bundles[place],
-            place: place as u32,
+            bundle: bundles[index],
+            index: index as u32,
             net: none,
             sum: none,
         })?;

@@ -1,6 +1,6 @@
 // The table of settings as a text.
 
-ghost use Rattle.std.specs.Prelude.{◌≡◌, ◌≤◌, ◌++◌, if◌then◌else◌, IfOk, OnOk};
+ghost use Rattle.std.specs.Prelude.{◌≡◌, ◌≤◌, ◌++◌, cond, IfOk, OnOk};
 ghost use Rattle.std.specs.Fmt.{is_char_start, char_count};
 ghost use Rattle.settings_table.specs.Rows.{texts_of};
 ghost use Rattle.cura_slice.specs.Listing.{column, unit_or_dash, columns, entry, is_group, entry_in, entries, heading, group_text, listing_text};
@@ -133,7 +133,7 @@ fn characters(text: &[u8]) -> usize
 
 // How many characters begin with this byte.
 fn begun_by(byte: u8) -> usize
-    ensures value { result ≡ (if is_char_start byte then 1 else 0) }
+    ensures value { result ≡ cond (is_char_start byte) 1 0 }
     ensures one { result ≤ 1 }
 {
     if byte < 0x80 || byte >= 0xC0 { 1 } else { 0 }

@@ -7,7 +7,7 @@ use Rattle.slice_base.specs.declared.points.Pt.{Pt}
 use Rattle.slice_base.specs.declared.points.Edge.{Edge}
 use Rattle.slice_base.specs.Plane.{cross_of}
 use Rattle.edge_cut.specs.Meeting.{is_between, is_part, is_beside, end_on, shared_of, crossing_of, meeting_of, turn_of, part_on, part_across}
-use Rattle.edge_cut.proofs.Rings.{diff, diff_of, diff-eq, diff-add, diff-sub, diff-mul}
+use Rattle.slice_base.proofs.Rings.{diff, diff_of, diff-eq, diff-add, diff-sub, diff-mul}
 
 -- the meeting point's height, from e and from f
 pub ring : (ax ay bx by cx cy dx dy : ℤ) →

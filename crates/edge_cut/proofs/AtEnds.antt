@@ -16,9 +16,9 @@ use Rattle.edge_cut.specs.declared.pairs.Sides.{Sides}
 use Rattle.edge_cut.specs.Meeting.{is_part, weighted, point_at, shared_of, crossing_of, meeting_of, turn_of, part_on, part_across, end_on}
 use Rattle.edge_cut.specs.Ordered.{IsEnd, MeetsAtEnds}
 use Rattle.edge_cut.specs.Inner.Sides.{AreSides, share_end, have_ends}
-use Rattle.edge_cut.proofs.Between.{rounded-le, le-rounded}
+use Rattle.slice_base.proofs.Rounding.{rounded-le, le-rounded}
 use Rattle.edge_cut.proofs.Ordered.{In, in-contained}
-use Rattle.edge_cut.proofs.Rings.{diff, diff_of, diff-eq, diff-sub, diff-mul}
+use Rattle.slice_base.proofs.Rings.{diff, diff_of, diff-eq, diff-sub, diff-mul}
 use Rattle.edge_cut.proofs.Apart.{both-true, by-bool, none-if}
 use Rattle.edge_cut.proofs.BothEdges.{turn-back, cross-sum, crossing-taken, shared-lies}
 

@@ -4,7 +4,7 @@ use Rattle.std.specs.Prelude.{int_le}
 use Rattle.std.proofs.lemmas.Int.{ints}
 use Rattle.slice_base.specs.declared.points.Edge.{Edge}
 use Rattle.clip_bands.specs.declared.bands.Span.{Span}
-use Rattle.clip_bands.specs.Places.{touches}
+use Rattle.clip_bands.specs.Indices.{touches}
 use Rattle.edge_cut.specs.Meeting.{meeting_of}
 use Rattle.edge_cut.specs.Inner.Heights.{height_of, width_of}
 use Rattle.edge_cut.proofs.Apart.{meetings-below, meetings-above, meetings-left, meetings-right}

@@ -14,7 +14,7 @@ use Rattle.edge_cut.specs.Meeting.{is_part, is_beside, weighted, point_at, end_o
 use Rattle.edge_cut.specs.Crossed.{IsOnePoint, LiesOn}
 use Rattle.edge_cut.specs.Ordered.{IsEnd}
 use Rattle.edge_cut.proofs.Ordered.{In, in-contained}
-use Rattle.edge_cut.proofs.Rings.{diff, diff_of, diff-eq, diff-add, diff-sub, diff-mul}
+use Rattle.slice_base.proofs.Rings.{diff, diff_of, diff-eq, diff-add, diff-sub, diff-mul}
 use Rattle.edge_cut.proofs.Apart.{ring, ring-x, diff-inj, times-sum, diff-neg, negated, part-pos, part-neg, both-true, pos-is}
 
 one-diff : (a a' b b' c c' d d' p q k l w : ℕ) → w ≡ p + k → w ≡ q + l →

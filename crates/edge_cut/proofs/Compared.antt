@@ -9,14 +9,14 @@ use Rattle.std.proofs.lemmas.List.Sorted.{All-permutation, Contains-permutation}
 use Rattle.slice_base.specs.declared.points.Pt.{Pt}
 use Rattle.slice_base.specs.declared.points.Edge.{Edge}
 use Rattle.clip_bands.specs.declared.bands.Span.{Span}
-use Rattle.clip_bands.specs.Places.{touches}
+use Rattle.clip_bands.specs.Indices.{touches}
 use Rattle.edge_cut.specs.declared.passes.Marked.{Marked}
 use Rattle.edge_cut.specs.declared.pairs.Extent.{Extent}
 use Rattle.edge_cut.specs.declared.pairs.Filed.{Filed}
 use Rattle.edge_cut.specs.declared.pairs.Pair.{Pair}
 use Rattle.edge_cut.specs.Meeting.{meeting_of}
 use Rattle.edge_cut.specs.Ordered.{MeetsAtEnds}
-use Rattle.edge_cut.specs.Inner.Places.{nothing}
+use Rattle.edge_cut.specs.Inner.Indices.{nothing}
 use Rattle.edge_cut.specs.Inner.Pairs.{extent_of, above_least, key_of, filed_at, limit_of, AreRising, IsExtentOf, IsFileOf, KeepsFiles, IsFiled, AreFiled, IsPaired, AreCompared, Keeps, ComparedUpTo, ComparedBelow, ArePaired}
 use Rattle.edge_cut.proofs.Ordered.{In, in-contained, contains-in}
 use Rattle.edge_cut.proofs.Beside.{meetings-apart, meetings-beside}
@@ -45,24 +45,24 @@ along-none true i j e f h = meetings-beside e f h
 along-none false i j e f h = meetings-apart e f h
 
 -- what is apart needn't be listed
-pub across-compared : (lies : Bool) (all : List Marked) (pairs : List Pair) (a b : Extent) → IsExtentOf lies all a → IsExtentOf lies all b → touches a.across b.across ≡ false → AreCompared all pairs a.place b.place
+pub across-compared : (lies : Bool) (all : List Marked) (pairs : List Pair) (a b : Extent) → IsExtentOf lies all a → IsExtentOf lies all b → touches a.across b.across ≡ false → AreCompared all pairs a.index b.index
 across-compared lies all pairs a b ha hb h =
-    let m = get_or all a.place nothing in
-    let n = get_or all b.place nothing in
-    let g : touches (extent_of lies a.place m.edge).across (extent_of lies b.place n.edge).across ≡ false = sym (λ i. touches (ha.is i).across (hb.is i).across) ∙ h in
+    let m = get_or all a.index nothing in
+    let n = get_or all b.index nothing in
+    let g : touches (extent_of lies a.index m.edge).across (extent_of lies b.index n.edge).across ≡ false = sym (λ i. touches (ha.is i).across (hb.is i).across) ∙ h in
     record {
-      forth = inr (none-in m.edge n (across-none lies a.place b.place m.edge n.edge g));
-      back = inr (none-in n.edge m (across-none lies b.place a.place n.edge m.edge (touches-turned (extent_of lies a.place m.edge).across (extent_of lies b.place n.edge).across g)));
+      forth = inr (none-in m.edge n (across-none lies a.index b.index m.edge n.edge g));
+      back = inr (none-in n.edge m (across-none lies b.index a.index n.edge m.edge (touches-turned (extent_of lies a.index m.edge).across (extent_of lies b.index n.edge).across g)));
     }
 
-pub along-compared : (lies : Bool) (all : List Marked) (pairs : List Pair) (a b : Extent) → IsExtentOf lies all a → IsExtentOf lies all b → touches a.along b.along ≡ false → AreCompared all pairs a.place b.place
+pub along-compared : (lies : Bool) (all : List Marked) (pairs : List Pair) (a b : Extent) → IsExtentOf lies all a → IsExtentOf lies all b → touches a.along b.along ≡ false → AreCompared all pairs a.index b.index
 along-compared lies all pairs a b ha hb h =
-    let m = get_or all a.place nothing in
-    let n = get_or all b.place nothing in
-    let g : touches (extent_of lies a.place m.edge).along (extent_of lies b.place n.edge).along ≡ false = sym (λ i. touches (ha.is i).along (hb.is i).along) ∙ h in
+    let m = get_or all a.index nothing in
+    let n = get_or all b.index nothing in
+    let g : touches (extent_of lies a.index m.edge).along (extent_of lies b.index n.edge).along ≡ false = sym (λ i. touches (ha.is i).along (hb.is i).along) ∙ h in
     record {
-      forth = inr (none-in m.edge n (along-none lies a.place b.place m.edge n.edge g));
-      back = inr (none-in n.edge m (along-none lies b.place a.place n.edge m.edge (touches-turned (extent_of lies a.place m.edge).along (extent_of lies b.place n.edge).along g)));
+      forth = inr (none-in m.edge n (along-none lies a.index b.index m.edge n.edge g));
+      back = inr (none-in n.edge m (along-none lies b.index a.index n.edge m.edge (touches-turned (extent_of lies a.index m.edge).along (extent_of lies b.index n.edge).along g)));
     }
 
 isnt-true : (t : Bool) → not t ≡ true → t ≡ false
@@ -106,14 +106,14 @@ any-default (x ∷ xs) (suc i) d e below = any-default xs i d e (omega arith)
 pub none-yet : (all : List Marked) (pairs : List Pair) (fs : List Filed) (r : ℕ) → ComparedUpTo all pairs fs r (r + 1)
 none-yet all pairs fs r s d later below same = absurd (omega arith)
 
-pub one-compared : (all : List Marked) (old new : List Pair) (fs : List Filed) (r s : ℕ) (a b : Filed) → r < s → s < length fs → ((d : Filed) → get_or fs r d ≡ a) → ((d : Filed) → get_or fs s d ≡ b) → Keeps old new → ComparedUpTo all old fs r s → AreCompared all new a.extent.place b.extent.place → ComparedUpTo all new fs r (s + 1)
+pub one-compared : (all : List Marked) (old new : List Pair) (fs : List Filed) (r s : ℕ) (a b : Filed) → r < s → s < length fs → ((d : Filed) → get_or fs r d ≡ a) → ((d : Filed) → get_or fs s d ≡ b) → Keeps old new → ComparedUpTo all old fs r s → AreCompared all new a.extent.index b.extent.index → ComparedUpTo all new fs r (s + 1)
 one-compared all old new fs r s a b up below ra sb kept so_far here t d later lt same = pick (below-or-last t s lt)
   where
-    pick : (t < s) ⊎ (t ≡ s) → AreCompared all new (get_or fs r d).extent.place (get_or fs t d).extent.place
-    pick (inl h) = still-compared all old new (get_or fs r d).extent.place (get_or fs t d).extent.place kept (so_far t d later h same)
-    pick (inr h) = subst (λ (k : ℕ). AreCompared all new (get_or fs r d).extent.place (get_or fs k d).extent.place) (sym h)
-        (subst (λ (x : Filed). AreCompared all new x.extent.place (get_or fs s d).extent.place) (sym (ra d))
-        (subst (λ (x : Filed). AreCompared all new a.extent.place x.extent.place) (sym (sb d)) here))
+    pick : (t < s) ⊎ (t ≡ s) → AreCompared all new (get_or fs r d).extent.index (get_or fs t d).extent.index
+    pick (inl h) = still-compared all old new (get_or fs r d).extent.index (get_or fs t d).extent.index kept (so_far t d later h same)
+    pick (inr h) = subst (λ (k : ℕ). AreCompared all new (get_or fs r d).extent.index (get_or fs k d).extent.index) (sym h)
+        (subst (λ (x : Filed). AreCompared all new x.extent.index (get_or fs s d).extent.index) (sym (ra d))
+        (subst (λ (x : Filed). AreCompared all new a.extent.index x.extent.index) (sym (sb d)) here))
 
 no-second : (a b : Bool) → b ≡ false → (a && b) ≡ false
 no-second true b h = h
@@ -152,7 +152,7 @@ later-key k l m lt le = omega arith
 pub rest-compared : (lies : Bool) (all : List Marked) (pairs : List Pair) (fs : List Filed) (r s : ℕ) (e : Filed) (limit : ℕ) → r < length fs → s < length fs → AreRising fs → All (IsFileOf lies all) fs → limit ≡ limit_of (get_or fs r e) → nat_le (get_or fs s e).key limit ≡ false → ComparedUpTo all pairs fs r s → ComparedUpTo all pairs fs r (length fs)
 rest-compared lies all pairs fs r s e limit rin sin rising are is over so_far t d later below same = pick (below-or-not t s)
   where
-    pick : (t < s) ⊎ (s ≤ t) → AreCompared all pairs (get_or fs r d).extent.place (get_or fs t d).extent.place
+    pick : (t < s) ⊎ (s ≤ t) → AreCompared all pairs (get_or fs r d).extent.index (get_or fs t d).extent.index
     pick (inl h) = so_far t d later h same
     pick (inr h) =
         let f = get_or fs r d in
@@ -172,7 +172,7 @@ pub more-below : (all : List Marked) (old new : List Pair) (fs : List Filed) (r 
 more-below all old new fs r kept so_far here q lt = pick (below-or-last q r lt)
   where
     pick : (q < r) ⊎ (q ≡ r) → ComparedUpTo all new fs q (length fs)
-    pick (inl h) = λ t d later below same. still-compared all old new (get_or fs q d).extent.place (get_or fs t d).extent.place kept (so_far q h t d later below same)
+    pick (inl h) = λ t d later below same. still-compared all old new (get_or fs q d).extent.index (get_or fs t d).extent.index kept (so_far q h t d later below same)
     pick (inr h) = subst (λ (k : ℕ). ComparedUpTo all new fs k (length fs)) (sym h) here
 
 pub all-below : (all : List Marked) (pairs : List Pair) (fs : List Filed) (r : ℕ) → length fs ≤ r → ComparedBelow all pairs fs r → ComparedBelow all pairs fs (length fs)
@@ -180,10 +180,10 @@ all-below all pairs fs r over so_far q lt = so_far q (omega arith)
 
 -- the boxes of all edges, each filed in the columns that it touches
 
-pub one-filed : (lies : Bool) (width : ℕ) (all : List Marked) (old new : List Filed) (place : ℕ) → KeepsFiles old new → ((i : ℕ) → i < place → IsFiled width (extent_of lies i (get_or all i nothing).edge) old) → IsFiled width (extent_of lies place (get_or all place nothing).edge) new → (i : ℕ) → i < place + 1 → IsFiled width (extent_of lies i (get_or all i nothing).edge) new
-one-filed lies width all old new place kept so_far here i lt = pick (below-or-last i place lt)
+pub one-filed : (lies : Bool) (width : ℕ) (all : List Marked) (old new : List Filed) (index : ℕ) → KeepsFiles old new → ((i : ℕ) → i < index → IsFiled width (extent_of lies i (get_or all i nothing).edge) old) → IsFiled width (extent_of lies index (get_or all index nothing).edge) new → (i : ℕ) → i < index + 1 → IsFiled width (extent_of lies i (get_or all i nothing).edge) new
+one-filed lies width all old new index kept so_far here i lt = pick (below-or-last i index lt)
   where
-    pick : (i < place) ⊎ (i ≡ place) → IsFiled width (extent_of lies i (get_or all i nothing).edge) new
+    pick : (i < index) ⊎ (i ≡ index) → IsFiled width (extent_of lies i (get_or all i nothing).edge) new
     pick (inl h) = λ c after before. kept (filed_at c (extent_of lies i (get_or all i nothing).edge)) (so_far i h c after before)
     pick (inr h) = subst (λ (k : ℕ). IsFiled width (extent_of lies k (get_or all k nothing).edge) new) (sym h) here
 
@@ -231,21 +231,21 @@ order (suc p) (suc q) = one-up (order p q)
     one-up (inr (inl h)) = inr (inl (omega arith))
     one-up (inr (inr h)) = inr (inr (ap suc h))
 
-by-order : (all : List Marked) (pairs : List Pair) (fs : List Filed) (d : Filed) (i j p q : ℕ) → p < length fs → q < length fs → (get_or fs p d).extent.place ≡ i → (get_or fs q d).extent.place ≡ j → (get_or fs p d).column ≡ (get_or fs q d).column → ComparedBelow all pairs fs (length fs) → i ≢ j → (p < q) ⊎ ((q < p) ⊎ (p ≡ q)) → IsPaired all pairs i j
+by-order : (all : List Marked) (pairs : List Pair) (fs : List Filed) (d : Filed) (i j p q : ℕ) → p < length fs → q < length fs → (get_or fs p d).extent.index ≡ i → (get_or fs q d).extent.index ≡ j → (get_or fs p d).column ≡ (get_or fs q d).column → ComparedBelow all pairs fs (length fs) → i ≢ j → (p < q) ⊎ ((q < p) ⊎ (p ≡ q)) → IsPaired all pairs i j
 by-order all pairs fs d i j p q pin qin pis qis same all' other (inl h) =
-    subst (λ (k : ℕ). IsPaired all pairs k j) pis (subst (λ (k : ℕ). IsPaired all pairs (get_or fs p d).extent.place k) qis (all' p pin q d h qin same).forth)
+    subst (λ (k : ℕ). IsPaired all pairs k j) pis (subst (λ (k : ℕ). IsPaired all pairs (get_or fs p d).extent.index k) qis (all' p pin q d h qin same).forth)
 by-order all pairs fs d i j p q pin qin pis qis same all' other (inr (inl h)) =
-    subst (λ (k : ℕ). IsPaired all pairs k j) pis (subst (λ (k : ℕ). IsPaired all pairs (get_or fs p d).extent.place k) qis (all' q qin p d h pin (sym same)).back)
+    subst (λ (k : ℕ). IsPaired all pairs k j) pis (subst (λ (k : ℕ). IsPaired all pairs (get_or fs p d).extent.index k) qis (all' q qin p d h pin (sym same)).back)
 by-order all pairs fs d i j p q pin qin pis qis same all' other (inr (inr h)) =
-    absurd (other (sym pis ∙ (ap (λ (k : ℕ). (get_or fs k d).extent.place) h ∙ qis)))
+    absurd (other (sym pis ∙ (ap (λ (k : ℕ). (get_or fs k d).extent.index) h ∙ qis)))
 
-in-column : (all : List Marked) (pairs : List Pair) (fs : List Filed) (c : ℕ) (x y : Extent) → Contains fs (filed_at c x) → Contains fs (filed_at c y) → ComparedBelow all pairs fs (length fs) → x.place ≢ y.place → IsPaired all pairs x.place y.place
+in-column : (all : List Marked) (pairs : List Pair) (fs : List Filed) (c : ℕ) (x y : Extent) → Contains fs (filed_at c x) → Contains fs (filed_at c y) → ComparedBelow all pairs fs (length fs) → x.index ≢ y.index → IsPaired all pairs x.index y.index
 in-column all pairs fs c x y p q all' other =
     let d = filed_at c x in
     let pis : get_or fs p.0 d ≡ filed_at c x = p.2 in
     let qis : get_or fs q.0 d ≡ filed_at c y = any-default fs q.0 d (filed_at c y) q.1 ∙ q.2 in
-    by-order all pairs fs d x.place y.place p.0 q.0 p.1 q.1
-    (ap (λ (f : Filed). f.extent.place) pis) (ap (λ (f : Filed). f.extent.place) qis)
+    by-order all pairs fs d x.index y.index p.0 q.0 p.1 q.1
+    (ap (λ (f : Filed). f.extent.index) pis) (ap (λ (f : Filed). f.extent.index) qis)
     (ap (λ (f : Filed). f.column) pis ∙ sym (ap (λ (f : Filed). f.column) qis)) all' other (order p.0 q.0)
 
 paired-by : (lies : Bool) (width : ℕ) (all : List Marked) (pairs : List Pair) (fs : List Filed) (i j : ℕ) (b : Bool) → AreFiled lies width all fs → ComparedBelow all pairs fs (length fs) → i < length all → j < length all → i ≢ j → touches (extent_of lies i (get_or all i nothing).edge).across (extent_of lies j (get_or all j nothing).edge).across ≡ b → IsPaired all pairs i j

@@ -1,4 +1,4 @@
--- Edges read at their places, and the stops gathered from them.
+-- Edges read at their indices, and the stops gathered from them.
 use Rattle.std.proofs.Common.{◌≡◌, ◌≢◌, ◌≤◌, ◌<◌, ◌+◌, ◌-◌, ℕ, zero, suc, List, [], ◌∷◌, ◌++◌, length, get_or, take, drop, map, inl, inr, ◌⊎◌, arith, refl, sym, ap, ◌∙◌, subst, append_assoc, drop-cons, length-drop}
 use Rattle.std.specs.List.{All, AllByRecursion, Contains}
 use Rattle.std.proofs.lemmas.List.Elements.{All-from_recursion, recursion_from_All, All-take, All-drop}
@@ -11,7 +11,7 @@ use Rattle.edge_cut.specs.declared.pairs.Pair.{Pair}
 use Rattle.edge_cut.specs.Meeting.{meeting_of}
 use Rattle.edge_cut.specs.Stops.{stop_at, stops_of}
 use Rattle.edge_cut.specs.Ordered.{IsRising, IsEnd, IsStopPoint, IsStop, MeetsAtEnds, IsEnough}
-use Rattle.edge_cut.specs.Inner.Places.{nothing, no_pair, seconds}
+use Rattle.edge_cut.specs.Inner.Indices.{nothing, no_pair, seconds}
 use Rattle.edge_cut.specs.Inner.Pairs.{IsInside, IsPaired, ArePaired, FirstFrom, HasAllOf, ByFirst}
 use Rattle.edge_cut.specs.Inner.Gathered.{meeting_stops, gathered}
 use Rattle.edge_cut.proofs.Ordered.{In, in-contained, contains-in}
@@ -20,7 +20,7 @@ use Rattle.edge_cut.proofs.Compared.{any-default}
 use Rattle.edge_cut.proofs.Reached.{meeting_of-itself}
 use Rattle.edge_cut.proofs.Enough.{stops_of-enough}
 
--- one place more
+-- one index more
 pub gather-step : (e : Edge) (all : List Marked) (some : List Pair) (k : ℕ) (old new whole : List Stop) → k < length some → new ≡ old ++ map (stop_at e) (meeting_of e (get_or all (get_or some k no_pair).second nothing).edge) → old ++ meeting_stops e (seconds all (drop k some)) ≡ whole → new ++ meeting_stops e (seconds all (drop (k + 1) some)) ≡ whole
 gather-step e all some k old new whole below adds so_far =
     let here = map (stop_at e) (meeting_of e (get_or all (get_or some k no_pair).second nothing).edge) in
@@ -41,7 +41,7 @@ append-none : (ss : List Stop) → ss ++ [] ≡ ss
 append-none [] = refl
 append-none (s ∷ ss) = ap (λ (ts : List Stop). s ∷ ts) (append-none ss)
 
--- after the last place
+-- after the last index
 pub gather-end : (e : Edge) (all : List Marked) (some : List Pair) (k : ℕ) (ss whole : List Stop) → length some ≤ k → ss ++ meeting_stops e (seconds all (drop k some)) ≡ whole → ss ≡ whole
 gather-end e all some k ss whole over so_far =
     sym (append-none ss) ∙ (ap (λ (ns : List Pair). ss ++ meeting_stops e (seconds all ns)) (sym (dropped k some over)) ∙ so_far)
@@ -135,7 +135,7 @@ ordered-are e ms ss rising kept only = stops_of-one e ms ss (record {
   reached = λ p due. kept (stop_at e p) (contains-in (stop_at e p) (gathered e ms) (in-gathered e ms p due));
 })
 
--- what is read at places of the list stands in it
+-- what is read at indices of the list stands in it
 
 contains-at : (all : List Marked) (i : ℕ) → i < length all → In (get_or all i nothing) all
 contains-at [] i below = absurd (omega arith)
@@ -151,7 +151,7 @@ pub read-within : (all : List Marked) (some : List Pair) → All (IsInside (leng
 read-within all some below m h =
     contains-in m all (read-in all some m (recursion_from_All (IsInside (length all)) some below) (in-contained m (seconds all some) h))
 
--- the stops of e by enough places
+-- the stops of e by enough indices
 pub stops-by : (e : Edge) (all : List Marked) (some : List Pair) (found ss : List Stop) → All (IsInside (length all)) some → IsEnough e (seconds all some) all → found ≡ gathered e (seconds all some) → IsRising ss → ((s : Stop) → Contains found s → Contains ss s) → ((s : Stop) → Contains ss s → Contains found s) → ss ≡ stops_of e all
 stops-by e all some found ss below enough is rising kept only =
     ordered-are e (seconds all some) ss rising
@@ -184,22 +184,22 @@ same-or-not (suc m) (suc n) = one-up (same-or-not m n)
     one-up (inl e) = inl (ap suc e)
     one-up (inr f) = inr (λ e. f (omega arith))
 
-by-pair : (all : List Marked) (pairs some : List Pair) (place j : ℕ) (m : Marked) → HasAllOf pairs some place → get_or all j nothing ≡ m → IsPaired all pairs place j → Contains (seconds all some) m ⊎ MeetsAtEnds (get_or all place nothing).edge m
-by-pair all pairs some place j m has at (inl h) =
-    let p : Pair = record { first = place; second = j } in
+by-pair : (all : List Marked) (pairs some : List Pair) (index j : ℕ) (m : Marked) → HasAllOf pairs some index → get_or all j nothing ≡ m → IsPaired all pairs index j → Contains (seconds all some) m ⊎ MeetsAtEnds (get_or all index nothing).edge m
+by-pair all pairs some index j m has at (inl h) =
+    let p : Pair = record { first = index; second = j } in
     inl (subst (λ (n : Marked). Contains (seconds all some) n) at (contains-in (get_or all j nothing) (seconds all some) (in-seconds all some p (in-contained p some (has p h refl)))))
-by-pair all pairs some place j m has at (inr h) = inr (subst (λ (n : Marked). MeetsAtEnds (get_or all place nothing).edge n) at h)
+by-pair all pairs some index j m has at (inr h) = inr (subst (λ (n : Marked). MeetsAtEnds (get_or all index nothing).edge n) at h)
 
-by-place : (all : List Marked) (pairs some : List Pair) (place j : ℕ) (m : Marked) → place < length all → j < length all → ArePaired all pairs → HasAllOf pairs some place → get_or all j nothing ≡ m → (place ≡ j) ⊎ (place ≢ j) → Contains (seconds all some) m ⊎ MeetsAtEnds (get_or all place nothing).edge m
-by-place all pairs some place j m pin jin paired has at (inl same) =
-    let is : get_or all place nothing ≡ m = ap (λ (k : ℕ). get_or all k nothing) same ∙ at in
-    inr (subst (λ (n : Marked). MeetsAtEnds (get_or all place nothing).edge n) is (meets-itself (get_or all place nothing)))
-by-place all pairs some place j m pin jin paired has at (inr other) = by-pair all pairs some place j m has at (paired place j pin jin other)
+by-index : (all : List Marked) (pairs some : List Pair) (index j : ℕ) (m : Marked) → index < length all → j < length all → ArePaired all pairs → HasAllOf pairs some index → get_or all j nothing ≡ m → (index ≡ j) ⊎ (index ≢ j) → Contains (seconds all some) m ⊎ MeetsAtEnds (get_or all index nothing).edge m
+by-index all pairs some index j m pin jin paired has at (inl same) =
+    let is : get_or all index nothing ≡ m = ap (λ (k : ℕ). get_or all k nothing) same ∙ at in
+    inr (subst (λ (n : Marked). MeetsAtEnds (get_or all index nothing).edge n) is (meets-itself (get_or all index nothing)))
+by-index all pairs some index j m pin jin paired has at (inr other) = by-pair all pairs some index j m has at (paired index j pin jin other)
 
 -- the pairs of an edge are enough
-pub pairs-enough : (all : List Marked) (pairs some : List Pair) (place : ℕ) → place < length all → ArePaired all pairs → HasAllOf pairs some place → IsEnough (get_or all place nothing).edge (seconds all some) all
-pairs-enough all pairs some place pin paired has m h =
-    by-place all pairs some place h.0 m pin h.1 paired has (any-default all h.0 nothing m h.1 ∙ h.2) (same-or-not place h.0)
+pub pairs-enough : (all : List Marked) (pairs some : List Pair) (index : ℕ) → index < length all → ArePaired all pairs → HasAllOf pairs some index → IsEnough (get_or all index nothing).edge (seconds all some) all
+pairs-enough all pairs some index pin paired has m h =
+    by-index all pairs some index h.0 m pin h.1 paired has (any-default all h.0 nothing m h.1 ∙ h.2) (same-or-not index h.0)
 
 -- the pairs of an edge stand together
 
@@ -221,10 +221,10 @@ in-part pairs from end k p le lt within is =
     let few = length-take (end - from) (drop from pairs) in
     (i, omega arith, get_or-take (end - from) (drop from pairs) i p (omega arith) ∙ (get_or-drop from pairs i p ∙ (ap (λ (n : ℕ). get_or pairs n p) e ∙ is)))
 
-pub group-has : (pairs : List Pair) (from end place : ℕ) → end ≤ length pairs → FirstFrom pairs from place → FirstFrom pairs end (place + 1) → HasAllOf pairs (take (end - from) (drop from pairs)) place
-group-has pairs from end place within lower upper p h is = pick (below-or-not h.0 from) (below-or-not h.0 end)
+pub group-has : (pairs : List Pair) (from end index : ℕ) → end ≤ length pairs → FirstFrom pairs from index → FirstFrom pairs end (index + 1) → HasAllOf pairs (take (end - from) (drop from pairs)) index
+group-has pairs from end index within lower upper p h is = pick (below-or-not h.0 from) (below-or-not h.0 end)
   where
-    first : (get_or pairs h.0 p).first ≡ place
+    first : (get_or pairs h.0 p).first ≡ index
     first = ap (λ (q : Pair). q.first) h.2 ∙ is
 
     pick : (h.0 < from) ⊎ (from ≤ h.0) → (h.0 < end) ⊎ (end ≤ h.0) → Contains (take (end - from) (drop from pairs)) p
@@ -257,23 +257,23 @@ map-more : (all : List Marked) (ps : List Pair) (p : Pair) → seconds all (ps +
 map-more all [] p = refl
 map-more all (q ∷ qs) p = ap (λ (ms : List Marked). get_or all q.second nothing ∷ ms) (map-more all qs p)
 
-pub second-more : (all : List Marked) (old : List Pair) (place : ℕ) → place < length all → seconds all old ++ drop place all ≡ all → seconds all (old ++ (let p : Pair = record { first = place; second = place } in p) ∷ []) ++ drop (place + 1) all ≡ all
-second-more all old place below so_far =
-    let p : Pair = record { first = place; second = place } in
-    let m = get_or all place nothing in
-    let next : place + 1 ≡ suc place = omega arith in
+pub second-more : (all : List Marked) (old : List Pair) (index : ℕ) → index < length all → seconds all old ++ drop index all ≡ all → seconds all (old ++ (let p : Pair = record { first = index; second = index } in p) ∷ []) ++ drop (index + 1) all ≡ all
+second-more all old index below so_far =
+    let p : Pair = record { first = index; second = index } in
+    let m = get_or all index nothing in
+    let next : index + 1 ≡ suc index = omega arith in
     ap (λ (n : ℕ). seconds all (old ++ p ∷ []) ++ drop n all) next
-    ∙ (ap (λ (ms : List Marked). ms ++ drop (suc place) all) (map-more all old p)
-    ∙ (append_assoc (seconds all old) (m ∷ []) (drop (suc place) all)
-    ∙ (ap (λ (ms : List Marked). seconds all old ++ ms) (sym (drop-cons all place nothing below)) ∙ so_far)))
+    ∙ (ap (λ (ms : List Marked). ms ++ drop (suc index) all) (map-more all old p)
+    ∙ (append_assoc (seconds all old) (m ∷ []) (drop (suc index) all)
+    ∙ (ap (λ (ms : List Marked). seconds all old ++ ms) (sym (drop-cons all index nothing below)) ∙ so_far)))
 
 append-nothing : (ms : List Marked) → ms ++ [] ≡ ms
 append-nothing [] = refl
 append-nothing (m ∷ ms) = ap (λ (ns : List Marked). m ∷ ns) (append-nothing ms)
 
-pub second-all : (all : List Marked) (ps : List Pair) (place : ℕ) → length all ≤ place → seconds all ps ++ drop place all ≡ all → seconds all ps ≡ all
-second-all all ps place over so_far =
-    sym (append-nothing (seconds all ps)) ∙ (ap (λ (ms : List Marked). seconds all ps ++ ms) (sym (drop_all place all over)) ∙ so_far)
+pub second-all : (all : List Marked) (ps : List Pair) (index : ℕ) → length all ≤ index → seconds all ps ++ drop index all ≡ all → seconds all ps ≡ all
+second-all all ps index over so_far =
+    sym (append-nothing (seconds all ps)) ∙ (ap (λ (ms : List Marked). seconds all ps ++ ms) (sym (drop_all index all over)) ∙ so_far)
 
 -- all edges are enough
 pub each-enough : (e : Edge) (all : List Marked) (ps qs : List Pair) → qs ≡ ps → seconds all ps ≡ all → IsEnough e (seconds all qs) all

@@ -1,6 +1,6 @@
 -- What the bodies and their proofs alone speak of.
 pub mod Heights
-pub mod Places
+pub mod Indices
 pub mod Pairs
 pub mod Sides
 pub mod Gathered

@@ -1,7 +1,7 @@
 // The heights and widths of edges.
 
 ghost use Rattle.std.specs.Prelude.{◌≡◌, ◌≤◌, not, ◌&&◌, cond, int_le};
-ghost use Rattle.clip_bands.specs.Places.{touches};
+ghost use Rattle.clip_bands.specs.Indices.{touches};
 ghost use Rattle.edge_cut.specs.Inner.Heights.{height_of, width_of};
 
 use crate::passes::Marked;
@@ -114,7 +114,7 @@ pub(crate) fn is_wide(cover: Cover) -> bool {
     )
 }
 
-// Where so many boxes share a place on the axis, columns are worth their while.
+// Where so many boxes stand at one spot of the axis, columns are worth their while.
 const MANY: u64 = 16;
 
 fn are_many(lengths: u64, range: u64) -> bool {

@@ -10,7 +10,7 @@ ghost use Rattle.edge_cut.specs.Ordered.{MeetsAtEnds};
 ghost use Rattle.edge_cut.specs.Inner.Heights.{height_of, width_of};
 ghost use Rattle.edge_cut.specs.Inner.Pairs.{extent_of, above_least, column_of, first_column_of, last_column_of, key_of, limit_of, filed_at, AreRising, IsExtentOf, IsFileOf, IsFiled, AreFiled, IsPaired, AreCompared};
 ghost use Rattle.edge_cut.specs.Inner.Pairs.{Keeps, KeepsFiles, IsInside, ComparedUpTo, ComparedBelow, ArePaired, ByFirst};
-ghost use Rattle.edge_cut.specs.Inner.Places.{nothing, seconds};
+ghost use Rattle.edge_cut.specs.Inner.Indices.{nothing, seconds};
 ghost use Rattle.edge_cut.specs.Inner.News.{AreSettled};
 ghost use Rattle.edge_cut.specs.Inner.Sides.{AreSides, share_end, have_ends};
 
@@ -21,35 +21,35 @@ use slice_base::wide::cross;
 use slice_base::{Edge, NoMemory, is_same};
 use std::alloc::Global;
 
-/// The box round the edge at a place, along the one axis and across it.
+/// The box round the edge at an index, along the one axis and across it.
 #[derive(Clone, Copy)]
 pub(crate) struct Extent {
     along: Span,
     across: Span,
-    place: u32,
+    index: u32,
 }
 
-/// The places of two edges, of which the first may meet the second elsewhere than at its own ends.
+/// The indices of two edges, of which the first may meet the second elsewhere than at its own ends.
 #[derive(Clone, Copy)]
 pub(crate) struct Pair {
     pub(crate) first: u32,
     pub(crate) second: u32,
 }
 
-fn extent_of(lies: bool, place: u32, e: Edge) -> Extent
-    ensures { result ≡ extent_of lies place e }
+fn extent_of(lies: bool, index: u32, e: Edge) -> Extent
+    ensures { result ≡ extent_of lies index e }
 {
     if lies {
         Extent {
             along: width(e),
             across: height(e),
-            place,
+            index,
         }
     } else {
         Extent {
             along: height(e),
             across: width(e),
-            place,
+            index,
         }
     }
 }
@@ -166,10 +166,10 @@ fn files_of(alloc: Global, lies: bool, width: u32, all: &[Marked]) -> Result<Vec
     ensures { IfOk result (λ files. AreFiled lies width all.now files.items) }
 {
     let mut files = Vec::new(alloc);
-    for place in 0..all.len() {
+    for index in 0..all.len() {
         file(
             &mut files,
-            extent_of(lies, place as u32, all[place].edge),
+            extent_of(lies, index as u32, all[index].edge),
             width,
         )?;
     }
@@ -326,16 +326,16 @@ fn compare(
     requires b_is { IsExtentOf lies all.now b }
     requires inside { All (IsInside (length all.now)) pairs.old.items }
     ensures kept { OnOk result (Keeps pairs.old.items pairs.new.items) }
-    ensures compared { OnOk result (AreCompared all.now pairs.new.items a.place b.place) }
+    ensures compared { OnOk result (AreCompared all.now pairs.new.items a.index b.index) }
     ensures inside { OnOk result (All (IsInside (length all.now)) pairs.new.items) }
 {
     if are_apart(a.across, b.across) {
         return Ok(());
     }
-    if are_old(news, a.place, b.place) {
+    if are_old(news, a.index, b.index) {
         return Ok(());
     }
-    push_both(pairs, all, a.place, b.place)
+    push_both(pairs, all, a.index, b.index)
 }
 
 // The greatest key of a box in the same column that begins up to this one's high end.
@@ -433,10 +433,10 @@ pub(crate) fn all_seconds(alloc: Global, all: &[Marked]) -> Result<Vec<Pair>, No
     ensures count { IfOk result (λ pairs. length pairs.items ≡ length all.now) }
 {
     let mut pairs = Vec::new(alloc);
-    for place in 0..all.len() {
+    for index in 0..all.len() {
         pairs.push(Pair {
-            first: place as u32,
-            second: place as u32,
+            first: index as u32,
+            second: index as u32,
         })?;
     }
     Ok(pairs)

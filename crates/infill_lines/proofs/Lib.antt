@@ -1,7 +1,6 @@
 mod Pairing
 mod Counting
 mod Filing
-mod Rings
 mod Parts
 mod Slants
 mod Crossed

@@ -1,6 +1,6 @@
 // The path before which a preheat stands.
 
-ghost use Rattle.std.specs.Prelude.{◌≡◌, ◌+◌, ◌-◌, ◌/◌, ◌<◌, ◌≤◌, ◌^◌, length, IfSome, if◌then◌else◌};
+ghost use Rattle.std.specs.Prelude.{◌≡◌, ◌+◌, ◌-◌, ◌/◌, ◌<◌, ◌≤◌, ◌^◌, length, IfSome, cond};
 ghost use Rattle.std.specs.List.{All, sum};
 ghost use Rattle.std.specs.Option.{option_map};
 ghost use Rattle.plan_types.specs.Steps.{path_count_of, path_counts_of};
@@ -71,8 +71,8 @@ fn half(
     requires front { front ≤ span.low }
     requires start { span.high ≤ start + 1 }
     ensures { let mid = span.low + (span.high - span.low) / 2 in result
-        ≡ (if is_covering window.now e.now left front start mid then record span { low = mid } else record span
-        { high = mid }) }
+        ≡ cond (is_covering window.now e.now left front start mid) (record span { low = mid })
+        (record span { high = mid }) }
 {
     let mid = span.low + (span.high - span.low) / 2;
     if is_covering(window, e, left, front, start, mid) {

@@ -14,10 +14,10 @@ record Holds (P : Pt → Type 0) (s : Joining) : Type 0 where
   loops : All (All P) s.loops
   chains : All (All P) s.chains
 
-at_place : (P : Pt → Type 0) (cs : List (List Pt)) (i : ℕ) → All (All P) cs → All P (get_or cs i [])
-at_place P [] i h = All-nil P
-at_place P (c ∷ cs) zero h = h 0 c (omega arith)
-at_place P (c ∷ cs) (suc i) h = at_place P cs i (λ k d below. h (suc k) d (omega arith))
+at_rank : (P : Pt → Type 0) (cs : List (List Pt)) (i : ℕ) → All (All P) cs → All P (get_or cs i [])
+at_rank P [] i h = All-nil P
+at_rank P (c ∷ cs) zero h = h 0 c (omega arith)
+at_rank P (c ∷ cs) (suc i) h = at_rank P cs i (λ k d below. h (suc k) d (omega arith))
 
 taken_out : (P : Pt → Type 0) (cs : List (List Pt)) (i : ℕ) → All (All P) cs → All (All P) (remove cs i)
 taken_out P cs i h = All-append (All P) (take i cs) (drop (suc i) cs) (All-take (All P) i cs h) (All-drop (All P) (suc i) cs h)
@@ -29,7 +29,7 @@ closed_up-holds P g s h = by_test (g.from == g.to)
     by_test true =
         let c = get_or s.chains g.from [] in
         record {
-          loops = All-append (All P) s.loops (looped g c ∷ []) h.loops (All-cons (All P) (looped g c) [] (All-take P (length c - doubled g) c (at_place P s.chains g.from h.chains)) (All-nil (All P)));
+          loops = All-append (All P) s.loops (looped g c ∷ []) h.loops (All-cons (All P) (looped g c) [] (All-take P (length c - doubled g) c (at_rank P s.chains g.from h.chains)) (All-nil (All P)));
           chains = taken_out P s.chains g.from h.chains;
         }
     by_test false =
@@ -38,7 +38,7 @@ closed_up-holds P g s h = by_test (g.from == g.to)
         record {
           loops = h.loops;
           chains = taken_out P (set s.chains g.from (lengthened g c d)) g.to
-              (All-set (All P) s.chains g.from (lengthened g c d) (All-append P c (drop (doubled g) d) (at_place P s.chains g.from h.chains) (All-drop P (doubled g) d (at_place P s.chains g.to h.chains))) h.chains);
+              (All-set (All P) s.chains g.from (lengthened g c d) (All-append P c (drop (doubled g) d) (at_rank P s.chains g.from h.chains) (All-drop P (doubled g) d (at_rank P s.chains g.to h.chains))) h.chains);
         }
 
 joined-holds : (P : Pt → Type 0) (n : ℕ) (s : Joining) → Holds P s → Holds P (joined n s)

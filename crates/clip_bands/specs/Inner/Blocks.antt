@@ -1,11 +1,11 @@
 -- Blocks of neighbours in a list of spans.
 use Rattle.std.specs.Prelude.{ℕ, ◌≡◌, ◌+◌, ◌*◌, ◌<◌, ◌≤◌, Bool, cond, ◌≤ℤ◌, List, [], ◌∷◌, ◌++◌, length, drop, slice_index_or}
 use Rattle.clip_bands.specs.declared.bands.Span.{Span}
-use Rattle.clip_bands.specs.Places.{places_from}
+use Rattle.clip_bands.specs.Indices.{indices_from}
 
--- the place, if it passed
-abbrev pub place_if : Bool → ℕ → List ℕ
-place_if passed i = cond passed (i ∷ []) []
+-- the index, if it passed
+abbrev pub index_if : Bool → ℕ → List ℕ
+index_if passed i = cond passed (i ∷ []) []
 
 -- s holds each number of t
 pub record Covers (s t : Span) : Type 0 where
@@ -23,7 +23,7 @@ pub record Hulls (spans blocks : List Span) : Type 0 where
   pub fits : 16 * length blocks ≤ length spans + 15
   pub covers : (k : ℕ) (d : Span) → k < length blocks → IsHull (slice_index_or blocks k d) spans (16 * k)
 
--- with a block's places found, the places of the spans behind it are all that is left to find
+-- with a block's indices found, the indices of the spans behind it are all that is left to find
 abbrev pub FindsBlock : (Span → Bool) → List Span → ℕ → List ℕ → List ℕ → Type 0
 FindsBlock test spans from old new =
-    new ++ places_from test (from + 16) (drop (from + 16) spans) ≡ old ++ places_from test from (drop from spans)
+    new ++ indices_from test (from + 16) (drop (from + 16) spans) ≡ old ++ indices_from test from (drop from spans)

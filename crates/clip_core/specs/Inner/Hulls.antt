@@ -5,7 +5,7 @@ use Rattle.clip_core.specs.declared.hulls.Hull.{Hull}
 use Rattle.clip_core.specs.declared.rays.Ray.{Ray}
 use Rattle.clip_core.specs.Inner.Rays.{twice_middle}
 
--- twice the place across of the bundle's midpoint
+-- twice how far across lies the bundle's midpoint
 abbrev pub twice_across : Bundle → ℤ
 twice_across b = b.low.x +ℤ b.high.x
 

@@ -1,4 +1,4 @@
--- Sums that are raised from a place on.
+-- Sums that are raised from an index on.
 use Rattle.std.specs.Prelude.{ℕ, zero, suc, ◌≡◌, ◌+◌, ◌≤◌, ◌<◌, List, [], ◌∷◌, length, slice_index_or}
 use Rattle.std.specs.List.{All}
 use Rattle.edge_cut.specs.declared.passes.Marked.{Marked}
@@ -9,7 +9,7 @@ use Rattle.clip_core.specs.Windings.{none, plus}
 use Rattle.clip_core.specs.Inner.Small.{AreSmall}
 use Rattle.clip_core.specs.Inner.Rays.{ray_with, IsSmallRay, IsFull}
 
--- what the raises before a place come to
+-- what the raises before an index come to
 abbrev pub raised : List Windings → ℕ → Windings
 raised [] k = none
 raised (w ∷ ws) zero = none

@@ -10,13 +10,13 @@ use Rattle.clip_core.specs.Bundles.{same_bundle}
 use Rattle.clip_core.specs.Windings.{none, plus, net_of, sum_of, reaches, stands_right}
 use Rattle.clip_core.specs.Inner.Small.{AreSmall}
 
--- what a place past the end would read
+-- what an index past the end would read
 abbrev pub nowhere : Bundle
 nowhere = record { low = record { x = pos 0; y = pos 0 }; high = record { x = pos 0; y = pos 0 } }
 
--- what a place past the end would read
+-- what an index past the end would read
 abbrev pub no_ray : Ray
-no_ray = record { bundle = nowhere; place = 0; net = none; sum = none }
+no_ray = record { bundle = nowhere; index = 0; net = none; sum = none }
 
 -- twice the height of the bundle's midpoint
 abbrev pub twice_middle : Bundle → ℤ
@@ -29,7 +29,7 @@ order_of = then_cmp (on (λ r. twice_middle r.bundle) int_cmp) (on (λ r. r.bund
 -- the rays of these bundles, the first of which stands at i, before any edge was added
 abbrev pub rays_from : ℕ → List Bundle → List Ray
 rays_from i [] = []
-rays_from i (b ∷ bs) = record { bundle = b; place = i; net = none; sum = none } ∷ rays_from (suc i) bs
+rays_from i (b ∷ bs) = record { bundle = b; index = i; net = none; sum = none } ∷ rays_from (suc i) bs
 
 -- the midpoint lies below an edge with these ends
 abbrev pub is_under : Bundle → Ray → Bool
@@ -69,17 +69,17 @@ pub record IsBare (r : Ray) : Type 0 where
 -- the same ray, with all these edges
 pub record IsFull (all : List Marked) (bare full : Ray) : Type 0 where
   pub bundle : full.bundle ≡ bare.bundle
-  pub place : full.place ≡ bare.place
+  pub index : full.index ≡ bare.index
   pub net : full.net ≡ net_of all bare.bundle
   pub sum : full.sum ≡ sum_of all bare.bundle
   pub small : IsSmallRay 100000 full
 
--- the ray is that of the bundle at its place
+-- the ray is that of the bundle at its index
 pub record IsRayOf (bundles : List Bundle) (r : Ray) : Type 0 where
-  pub within : r.place < length bundles
-  pub is : r.bundle ≡ slice_index_or bundles r.place nowhere
+  pub within : r.index < length bundles
+  pub is : r.bundle ≡ slice_index_or bundles r.index nowhere
 
--- the ray is that of the bundle at its place, with all these edges
+-- the ray is that of the bundle at its index, with all these edges
 pub record IsTold (all : List Marked) (bundles : List Bundle) (r : Ray) : Type 0 where
   pub of_bundle : IsRayOf bundles r
   pub net : r.net ≡ net_of all r.bundle
@@ -89,4 +89,4 @@ pub record IsTold (all : List Marked) (bundles : List Bundle) (r : Ray) : Type 0
 -- each bundle has a ray
 abbrev pub HaveRays : List Bundle → List Ray → Type 0
 HaveRays bundles rays =
-    (k : ℕ) (d : Ray) → k < length bundles → (j : ℕ) × (j < length rays) × ((slice_index_or rays j d).place ≡ k)
+    (k : ℕ) (d : Ray) → k < length bundles → (j : ℕ) × (j < length rays) × ((slice_index_or rays j d).index ≡ k)

@@ -5,7 +5,7 @@ use Rattle.slice_base.specs.declared.points.Edge.{Edge}
 use Rattle.edge_cut.specs.declared.stops.Stop.{Stop}
 use Rattle.edge_cut.specs.declared.passes.Marked.{Marked}
 use Rattle.edge_cut.specs.Ordered.{MeetsAtEnds}
-use Rattle.edge_cut.specs.Inner.Places.{nothing}
+use Rattle.edge_cut.specs.Inner.Indices.{nothing}
 
 -- there are two stops: the ends of e, in order
 abbrev pub AreEnds : Edge → List Stop → Type 0

@@ -9,14 +9,14 @@ use Rattle.edge_cut.specs.declared.pairs.Filed.{Filed}
 use Rattle.edge_cut.specs.declared.pairs.Pair.{Pair}
 use Rattle.edge_cut.specs.Ordered.{MeetsAtEnds}
 use Rattle.edge_cut.specs.Inner.Heights.{height_of, width_of}
-use Rattle.edge_cut.specs.Inner.Places.{nothing}
+use Rattle.edge_cut.specs.Inner.Indices.{nothing}
 
 -- the box round the edge at i, taken along x where it lies, else along y
 abbrev pub extent_of : Bool → ℕ → Edge → Extent
 extent_of lies i e = record {
   along = cond lies (width_of e) (height_of e);
   across = cond lies (height_of e) (width_of e);
-  place = i;
+  index = i;
 }
 
 -- how far the coordinate stands above the least one
@@ -43,7 +43,7 @@ key_of column x = column * 4294967296 + above_least x
 abbrev pub filed_at : ℕ → Extent → Filed
 filed_at column x = record { key = key_of column x.along.low; column = column; extent = x }
 
--- what a place past the end would read
+-- what an index past the end would read
 abbrev pub no_file : Filed
 no_file = record {
   key = 0;
@@ -51,7 +51,7 @@ no_file = record {
   extent = record {
     along = record { low = pos 0; high = pos 0 };
     across = record { low = pos 0; high = pos 0 };
-    place = 0;
+    index = 0;
   };
 }
 
@@ -63,10 +63,10 @@ limit_of f = key_of f.column f.extent.along.high
 abbrev pub AreRising : List Filed → Type 0
 AreRising fs = (i j : ℕ) (d : Filed) → i ≤ j → j < length fs → (slice_index_or fs i d).key ≤ (slice_index_or fs j d).key
 
--- the box is that of the edge at its place
+-- the box is that of the edge at its index
 pub record IsExtentOf (lies : Bool) (all : List Marked) (a : Extent) : Type 0 where
-  pub within : a.place < length all
-  pub is : a ≡ extent_of lies a.place (slice_index_or all a.place nothing).edge
+  pub within : a.index < length all
+  pub is : a ≡ extent_of lies a.index (slice_index_or all a.index nothing).edge
 
 -- a box of an edge in some column
 pub record IsFileOf (lies : Bool) (all : List Marked) (f : Filed) : Type 0 where
@@ -102,7 +102,7 @@ pub record AreCompared (all : List Marked) (pairs : List Pair) (i j : ℕ) : Typ
 abbrev pub Keeps : List Pair → List Pair → Type 0
 Keeps old new = (p : Pair) → Contains old p → Contains new p
 
--- both places are those of edges
+-- both indices are those of edges
 pub record IsInside (n : ℕ) (p : Pair) : Type 0 where
   pub first_in : p.first < n
   pub second_in : p.second < n
@@ -111,7 +111,7 @@ pub record IsInside (n : ℕ) (p : Pair) : Type 0 where
 abbrev pub ComparedUpTo : List Marked → List Pair → List Filed → ℕ → ℕ → Type 0
 ComparedUpTo all pairs fs r t =
     (s : ℕ) (d : Filed) → r < s → s < t → (slice_index_or fs r d).column ≡ (slice_index_or fs s d).column
-    → AreCompared all pairs (slice_index_or fs r d).extent.place (slice_index_or fs s d).extent.place
+    → AreCompared all pairs (slice_index_or fs r d).extent.index (slice_index_or fs s d).extent.index
 
 -- all boxes up to r were compared with those behind them
 abbrev pub ComparedBelow : List Marked → List Pair → List Filed → ℕ → Type 0
@@ -134,4 +134,4 @@ pub record FirstFrom (pairs : List Pair) (k first : ℕ) : Type 0 where
 
 -- some have each pair with this first edge
 abbrev pub HasAllOf : List Pair → List Pair → ℕ → Type 0
-HasAllOf pairs some place = (p : Pair) → Contains pairs p → p.first ≡ place → Contains some p
+HasAllOf pairs some index = (p : Pair) → Contains pairs p → p.first ≡ index → Contains some p

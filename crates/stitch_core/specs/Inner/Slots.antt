@@ -11,20 +11,20 @@ left [] = []
 left ([] ∷ slots) = left slots
 left ((p ∷ ps) ∷ slots) = (p ∷ ps) ∷ left slots
 
--- how many chains are left before a slot: the place of its chain among those that are left
-abbrev pub place : Loops → ℕ → ℕ
-place [] i = 0
-place (c ∷ slots) zero = 0
-place ([] ∷ slots) (suc i) = place slots i
-place ((p ∷ ps) ∷ slots) (suc i) = suc (place slots i)
+-- how many chains are left before a slot: the rank of its chain among those that are left
+abbrev pub rank : Loops → ℕ → ℕ
+rank [] i = 0
+rank (c ∷ slots) zero = 0
+rank ([] ∷ slots) (suc i) = rank slots i
+rank ((p ∷ ps) ∷ slots) (suc i) = suc (rank slots i)
 
 -- what the slots stand for
 abbrev pub joining : Loops → Loops → Joining
 joining loops slots = record { loops = loops; chains = left slots }
 
--- a gap between slots, by the places of the chains
-abbrev pub placed : Loops → Gap → Gap
-placed slots g = record { squared = g.squared; from = place slots g.from; to = place slots g.to }
+-- a gap between slots, by the ranks of the chains
+abbrev pub ranked : Loops → Gap → Gap
+ranked slots g = record { squared = g.squared; from = rank slots g.from; to = rank slots g.to }
 
 -- no gap within reach goes from this slot to that one
 abbrev pub HasNoGap : Loops → ℕ → ℕ → Type 0

@@ -1,7 +1,7 @@
 use Rattle.std.proofs.Common.{◌≤◌, ◌+◌, ◌*◌, List, length, get_or, arith, ap, sym, subst, ◌∙◌}
 use Rattle.std.specs.List.{All}
 use Rattle.edge_cut.specs.declared.pairs.Pair.{Pair}
-use Rattle.edge_cut.specs.Inner.Places.{nothing}
+use Rattle.edge_cut.specs.Inner.Indices.{nothing}
 use Rattle.edge_cut.specs.Inner.Pairs.{IsInside}
 use Rattle.edge_cut.proofs.Compared.{any-default}
 use Rattle.edge_cut.proofs.Told.{told-settled}

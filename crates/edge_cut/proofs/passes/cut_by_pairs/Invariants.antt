@@ -5,11 +5,11 @@ use Rattle.edge_cut.specs.Inner.News.{AreTold}
 use Rattle.edge_cut.proofs.Counts.{SoFar}
 use Rattle.edge_cut.proofs.passes.cut_by_pairs.Given as goal
 
-abbrev pub invariant-loop-place : goal.invariant-loop-place
-invariant-loop-place l = record {
+abbrev pub invariant-loop-index : goal.invariant-loop-index
+invariant-loop-index l = record {
   within : l.done ≤ length l.pairs;
-  grouped : FirstFrom l.pairs l.done l.place;
-  small : l.pieces.count ≤ 2 * l.done + 2 * l.place;
-  so_far : SoFar l.pieces (cut_by l.all (drop l.place l.all)) (pass_of l.all);
+  grouped : FirstFrom l.pairs l.done l.index;
+  small : l.pieces.count ≤ 2 * l.done + 2 * l.index;
+  so_far : SoFar l.pieces (cut_by l.all (drop l.index l.all)) (pass_of l.all);
   told : AreTold l.all l.pieces.list.items l.pieces.news.items;
 }

@@ -1,6 +1,6 @@
 use Rattle.std.proofs.Common.{ap, ◌∙◌}
 use Rattle.edge_cut.specs.declared.pairs.Pair.{Pair}
-use Rattle.edge_cut.specs.Inner.Places.{no_pair}
+use Rattle.edge_cut.specs.Inner.Indices.{no_pair}
 use Rattle.edge_cut.proofs.Compared.{any-default}
 use Rattle.edge_cut.proofs.Read.{group-from}
 use Rattle.edge_cut.proofs.passes.group_end.Goals as goal

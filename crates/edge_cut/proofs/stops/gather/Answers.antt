@@ -1,5 +1,5 @@
 use Rattle.std.proofs.Common.{◌≤◌, length, arith}
-use Rattle.edge_cut.specs.Inner.Places.{no_pair, seconds}
+use Rattle.edge_cut.specs.Inner.Indices.{no_pair, seconds}
 use Rattle.edge_cut.specs.Inner.Gathered.{gathered}
 use Rattle.edge_cut.proofs.Read.{gather-step, gather-end}
 use Rattle.edge_cut.proofs.stops.gather.Goals as goal

@@ -1,5 +1,5 @@
 use Rattle.std.proofs.Common.{◌≡◌, ◌≤◌, ◌+◌, ◌*◌, ◌++◌, drop, length}
-use Rattle.edge_cut.specs.Inner.Places.{seconds}
+use Rattle.edge_cut.specs.Inner.Indices.{seconds}
 use Rattle.edge_cut.specs.Inner.Gathered.{meeting_stops, gathered}
 use Rattle.edge_cut.proofs.stops.gather.Given as goal
 

@@ -1,16 +1,16 @@
--- Edges read at their places.
+-- Edges read at their indices.
 use Rattle.std.specs.Prelude.{pos, false, List, map, slice_index_or}
 use Rattle.edge_cut.specs.declared.passes.Marked.{Marked}
 use Rattle.edge_cut.specs.declared.pairs.Pair.{Pair}
 
--- what a place past the end would read
+-- what an index past the end would read
 abbrev pub nothing : Marked
 nothing = record {
   edge = record { from = record { x = pos 0; y = pos 0 }; to = record { x = pos 0; y = pos 0 } };
   second = false;
 }
 
--- what a place past the end would read
+-- what an index past the end would read
 abbrev pub no_pair : Pair
 no_pair = record { first = 0; second = 0 }
 
