@@ -9,6 +9,3 @@ from_each {X} P k (x ∷ xs) h =
       subst (λ (j : ℕ). P j x) here (h 0 x (omega arith)),
       from_each P (k + 1) xs (λ i d below. let e : k + suc i ≡ (k + 1) + i = omega arith in subst (λ (j : ℕ). P j (get_or xs i d)) e (h (suc i) d (omega (arith, below)))),
     )
-
-pub from_zero : {X : Type 0} (P : ℕ → X → Type 0) (xs : List X) → ((i : ℕ) (d : X) → i < length xs → P i (get_or xs i d)) → FromNumber P 0 xs
-from_zero {X} P xs h = from_each P 0 xs (λ i d below. let e : i ≡ 0 + i = omega arith in subst (λ (j : ℕ). P j (get_or xs i d)) e (h i d below))

@@ -1,6 +1,6 @@
 // Walls, and skin and fill, of all layers: one layer after another, or many at once.
 
-ghost use Rattle.std.specs.Prelude.{◌≡◌, ◌≤◌, ◌<◌, ◌^◌, ℕ, List, length, slice_index_or, Result, IfOk, Ok, MatchResult};
+ghost use Rattle.std.specs.Prelude.{◌≡◌, ◌+◌, ◌≤◌, ◌<◌, ◌^◌, ℕ, List, length, slice_index_or, Result, IfOk, IfErr, Ok, MatchResult};
 ghost use Rattle.std.specs.List.{All};
 ghost use Rattle.slice_base.specs.Boxes.{TriIn, around};
 ghost use Rattle.slice_base.specs.Outcomes.{up_to};
@@ -56,27 +56,42 @@ fn no_results<T: Drop>(alloc: Global, count: u32) -> Result<Vec<Result<T, AreaFa
     Ok(results)
 }
 
+// How many neighbouring layers a thread works out before all threads go on together. Neighbours take about as long as
+// each other; the layers of a mesh's foot and those of its top don't.
+const RUN: u32 = 8;
+
+// How many of the layers that are left are worked out next.
+fn next_few(left: u32, threads: u32) -> u32
+    requires left { 0 < left }
+    requires threads { 0 < threads }
+    ensures some { 0 < result }
+    ensures most { result ≤ left }
+{
+    threads.saturating_mul(RUN).min(left)
+}
+
 fn work_out_walls<R: Threads + Sync>(
     rt: &R,
     alloc: Global,
     threads: u32,
     settings: &Settings,
     meshes: &[Mesh],
+    from: u32,
     results: &mut [Result<LayerWalls, AreaFault>],
 )
     requires threads { 0 < threads }
     requires as_many { length meshes.now ≡ length settings.now.meshes }
-    requires few { length results.old ≤ 40000 }
-    requires low { (k : ℕ) → k < length results.old → plane_of settings.now k < 2 ^ 31 }
+    requires few { from + length results.old ≤ 40000 }
+    requires low { (k : ℕ) → k < from + length results.old → plane_of settings.now k < 2 ^ 31 }
     requires inside { All (All (TriIn (around 1000000))) meshes.now }
     ensures each { (i : ℕ) (d : Result LayerWalls AreaFault) → i < length results.old
-        → GivesLayerWalls settings.now meshes.now i (slice_index_or results.new i d) }
+        → GivesLayerWalls settings.now meshes.now (from + i) (slice_index_or results.new i d) }
 {
     thread::for_each_mut(
         rt,
         results,
         threads as usize,
-        &|k, slot| { *slot = layer_walls(alloc, settings, meshes, k as u32) },
+        &|k, slot| { *slot = layer_walls(alloc, settings, meshes, from + k as u32) },
     );
 }
 
@@ -86,20 +101,58 @@ fn walls_at_once<R: Threads + Sync>(
     threads: u32,
     settings: &Settings,
     meshes: &[Mesh],
+    from: u32,
     count: u32,
 ) -> Result<Vec<Result<LayerWalls, AreaFault>>, NoMemory>
     requires threads { 0 < threads }
     requires as_many { length meshes.now ≡ length settings.now.meshes }
-    requires few { count ≤ 40000 }
-    requires low { (k : ℕ) → k < count → plane_of settings.now k < 2 ^ 31 }
+    requires few { from + count ≤ 40000 }
+    requires low { (k : ℕ) → k < from + count → plane_of settings.now k < 2 ^ 31 }
     requires inside { All (All (TriIn (around 1000000))) meshes.now }
     ensures each { IfOk result (λ v. (i : ℕ) (d : Result LayerWalls AreaFault) → i < length v.items
-        → GivesLayerWalls settings.now meshes.now i (slice_index_or v.items i d)) }
+        → GivesLayerWalls settings.now meshes.now (from + i) (slice_index_or v.items i d)) }
     ensures len { IfOk result (λ v. length v.items ≡ count) }
 {
     let mut results = no_results(alloc, count)?;
-    work_out_walls(rt, alloc, threads, settings, meshes, results.as_mut_slice());
+    work_out_walls(
+        rt,
+        alloc,
+        threads,
+        settings,
+        meshes,
+        from,
+        results.as_mut_slice(),
+    );
     Ok(results)
+}
+
+// The walls of the layers below `from`, and behind them those of so many more layers, worked out at once.
+fn with_layers<R: Threads + Sync>(
+    rt: &R,
+    alloc: Global,
+    threads: u32,
+    settings: &Settings,
+    meshes: &[Mesh],
+    below: JobWalls,
+    from: u32,
+    count: u32,
+) -> Result<JobWalls, AreaFault>
+    requires threads { 0 < threads }
+    requires as_many { length meshes.now ≡ length settings.now.meshes }
+    requires few { from + count ≤ 40000 }
+    requires low { (k : ℕ) → k < from + count → plane_of settings.now k < 2 ^ 31 }
+    requires inside { All (All (TriIn (around 1000000))) meshes.now }
+    requires below { AreJobWalls settings.now meshes.now from below }
+    ensures walls { IfOk result (AreJobWalls settings.now meshes.now (from + count)) }
+    ensures fault { IfErr result (λ fault. (n : ℕ) → from + count ≤ n
+        → IsAreaFault (up_to (layer_walls_of settings.now meshes.now) n) fault) }
+{
+    let results = walls_at_once(rt, alloc, threads, settings, meshes, from, count)?;
+    let mut walls = below;
+    for item in results {
+        walls = with_layer(walls, item?)?;
+    }
+    Ok(walls)
 }
 
 /// The same, by so many threads.
@@ -119,10 +172,12 @@ pub(crate) fn job_walls_wide<R: Threads + Sync>(
     ensures { MatchResult result (AreJobWalls settings.now meshes.now count)
         (IsAreaFault (up_to (layer_walls_of settings.now meshes.now) count)) }
 {
-    let results = walls_at_once(rt, alloc, threads, settings, meshes, count)?;
     let mut walls = no_walls(alloc);
-    for item in results {
-        walls = with_layer(walls, item?)?;
+    let mut from = 0;
+    'runs: while from < count {
+        let few = next_few(count - from, threads);
+        walls = with_layers(rt, alloc, threads, settings, meshes, walls, from, few)?;
+        from += few;
     }
     Ok(walls)
 }
@@ -152,20 +207,21 @@ fn work_out_splits<R: Threads + Sync>(
     threads: u32,
     settings: &Settings,
     columns: &[Column],
+    from: u32,
     results: &mut [Result<Items<Filled>, AreaFault>],
 )
     requires threads { 0 < threads }
     requires as_many { length columns.now ≡ length settings.now.meshes }
-    requires few { length results.old ≤ 40000 }
-    requires long { All (λ column. length column ≡ length results.old) columns.now }
+    requires few { from + length results.old ≤ 40000 }
+    requires long { All (λ column. from + length results.old ≤ length column) columns.now }
     ensures each { (i : ℕ) (d : Result (List Split) AreaFault) → i < length results.old
-        → GivesNumber (layer_splits_of settings.now columns.now) i (slice_index_or results.new i d) }
+        → GivesNumber (layer_splits_of settings.now columns.now) (from + i) (slice_index_or results.new i d) }
 {
     thread::for_each_mut(
         rt,
         results,
         threads as usize,
-        &|k, slot| { *slot = layer_splits(alloc, settings, columns, k as u32) },
+        &|k, slot| { *slot = layer_splits(alloc, settings, columns, from + k as u32) },
     );
 }
 
@@ -175,14 +231,15 @@ fn splits_at_once<R: Threads + Sync>(
     threads: u32,
     settings: &Settings,
     columns: &[Column],
+    from: u32,
     count: u32,
 ) -> Result<Vec<Result<Items<Filled>, AreaFault>>, NoMemory>
     requires threads { 0 < threads }
     requires as_many { length columns.now ≡ length settings.now.meshes }
-    requires few { count ≤ 40000 }
-    requires long { All (λ column. length column ≡ count) columns.now }
+    requires few { from + count ≤ 40000 }
+    requires long { All (λ column. from + count ≤ length column) columns.now }
     ensures each { IfOk result (λ v. (i : ℕ) (d : Result (List Split) AreaFault) → i < length v.items
-        → GivesNumber (layer_splits_of settings.now columns.now) i (slice_index_or v.items i d)) }
+        → GivesNumber (layer_splits_of settings.now columns.now) (from + i) (slice_index_or v.items i d)) }
     ensures len { IfOk result (λ v. length v.items ≡ count) }
 {
     let mut results = no_results(alloc, count)?;
@@ -192,9 +249,38 @@ fn splits_at_once<R: Threads + Sync>(
         threads,
         settings,
         columns,
+        from,
         results.as_mut_slice(),
     );
     Ok(results)
+}
+
+// Skin and fill of the layers below `from`, and behind them those of so many more layers, worked out at once.
+fn with_splits<R: Threads + Sync>(
+    rt: &R,
+    alloc: Global,
+    threads: u32,
+    settings: &Settings,
+    columns: &[Column],
+    below: Items<Items<Filled>>,
+    from: u32,
+    count: u32,
+) -> Result<Items<Items<Filled>>, AreaFault>
+    requires threads { 0 < threads }
+    requires as_many { length columns.now ≡ length settings.now.meshes }
+    requires few { from + count ≤ 40000 }
+    requires long { All (λ column. from + count ≤ length column) columns.now }
+    requires below { up_to (layer_splits_of settings.now columns.now) from ≡ Ok below }
+    ensures splits { IfOk result (λ all. up_to (layer_splits_of settings.now columns.now) (from + count) ≡ Ok all) }
+    ensures fault { IfErr result (λ fault. (n : ℕ) → from + count ≤ n
+        → IsAreaFault (up_to (layer_splits_of settings.now columns.now) n) fault) }
+{
+    let results = splits_at_once(rt, alloc, threads, settings, columns, from, count)?;
+    let mut splits = below;
+    for item in results {
+        splits.push(item?)?;
+    }
+    Ok(splits)
 }
 
 /// The same, by so many threads.
@@ -213,10 +299,12 @@ pub(crate) fn job_splits_wide<R: Threads + Sync>(
     ensures { MatchResult result (λ splits. up_to (layer_splits_of settings.now columns.now) count ≡ Ok splits)
         (IsAreaFault (up_to (layer_splits_of settings.now columns.now) count)) }
 {
-    let results = splits_at_once(rt, alloc, threads, settings, columns, count)?;
     let mut splits = Items::new(alloc);
-    for item in results {
-        splits.push(item?)?;
+    let mut from = 0;
+    'runs: while from < count {
+        let few = next_few(count - from, threads);
+        splits = with_splits(rt, alloc, threads, settings, columns, splits, from, few)?;
+        from += few;
     }
     Ok(splits)
 }

@@ -1,13 +1,13 @@
-use Rattle.std.proofs.Common.{◌≡◌, ◌+◌, Ok, length}
-use Rattle.std.specs.Vec.Iter.{into_iter_items}
+use Rattle.std.proofs.Common.{◌≡◌, ◌≤◌, ◌-◌, Ok}
 use Rattle.slice_base.specs.Outcomes.{up_to}
 use Rattle.area_stage.specs.Fills.{layer_splits_of}
-use Rattle.area_stage.specs.Inner.Faults.{FromNumber, GivesNumber}
 use Rattle.area_stage.proofs.phases.job_splits_wide.Given as goal
 
-abbrev pub invariant-loop-item : goal.invariant-loop-item
-invariant-loop-item g l = record {
-  rest : FromNumber (GivesNumber (layer_splits_of l.settings l.columns)) (length l.splits) (into_iter_items l.item-iterator);
-  total : length l.splits + length (into_iter_items l.item-iterator) ≡ l.count;
-  so_far : up_to (layer_splits_of l.settings l.columns) (length l.splits) ≡ Ok l.splits;
+abbrev pub invariant-runs : goal.invariant-runs
+invariant-runs g l = record {
+  few : l.from ≤ l.count;
+  so_far : up_to (layer_splits_of l.settings l.columns) l.from ≡ Ok l.splits;
 }
+
+abbrev pub decreases-runs : goal.decreases-runs
+decreases-runs g l = l.count - l.from

@@ -1,12 +1,12 @@
-use Rattle.std.proofs.Common.{◌≡◌, ◌+◌, length}
-use Rattle.std.specs.Vec.Iter.{into_iter_items}
-use Rattle.area_stage.specs.Inner.Faults.{FromNumber}
-use Rattle.area_stage.specs.Inner.Walls.{AreJobWalls, GivesLayerWalls}
+use Rattle.std.proofs.Common.{◌≤◌, ◌-◌}
+use Rattle.area_stage.specs.Inner.Walls.{AreJobWalls}
 use Rattle.area_stage.proofs.phases.job_walls_wide.Given as goal
 
-abbrev pub invariant-loop-item : goal.invariant-loop-item
-invariant-loop-item g l = record {
-  rest : FromNumber (GivesLayerWalls l.settings l.meshes) (length l.walls.sets) (into_iter_items l.item-iterator);
-  total : length l.walls.sets + length (into_iter_items l.item-iterator) ≡ l.count;
-  so_far : AreJobWalls l.settings l.meshes (length l.walls.sets) l.walls;
+abbrev pub invariant-runs : goal.invariant-runs
+invariant-runs g l = record {
+  few : l.from ≤ l.count;
+  so_far : AreJobWalls l.settings l.meshes l.from l.walls;
 }
+
+abbrev pub decreases-runs : goal.decreases-runs
+decreases-runs g l = l.count - l.from
