@@ -2,21 +2,19 @@
 use Rattle.std.proofs.Common.{◌≡◌, ◌⊎◌, inl, inr, ℕ, ℤ, pos, ◌+ℤ◌, ◌-ℤ◌, ◌*ℤ◌, ◌≤ℤ◌, ◌<ℤ◌, Bool, true, false, cond, ◌&&◌, int_lt, List, [], ◌∷◌, ◌++◌, ◌+◌, ◌-◌, ◌*◌, ◌<◌, ◌≤◌, length, get_or, length-append, arith, refl, sym, ap, ◌∙◌, subst}
 use Rattle.std.specs.Prelude.{int_le}
 use Rattle.std.proofs.lemmas.Int.{ints}
-use Rattle.std.proofs.lemmas.Bool.{and_parts, false_from_ne_true}
+use Rattle.std.proofs.lemmas.Bool.{and_parts}
 use Rattle.std.proofs.lemmas.List.{get_or_append_left}
 use Rattle.std.proofs.Math.Seq.{get_or-append_seam}
 use Rattle.slice_base.specs.declared.points.Pt.{Pt}
-use Rattle.slice_base.specs.Plane.{same_point}
-use Rattle.slice_base.proofs.SamePoint.{same_point-is}
 use Rattle.clip_core.specs.declared.bundles.Bundle.{Bundle}
 use Rattle.clip_core.specs.declared.windings.Windings.{Windings}
 use Rattle.clip_core.specs.declared.rays.Ray.{Ray}
 use Rattle.clip_core.specs.declared.hulls.Hull.{Hull}
-use Rattle.clip_core.specs.Bundles.{same_bundle}
 use Rattle.clip_core.specs.Windings.{none, plus, reaches, stands_right}
-use Rattle.clip_core.specs.Inner.Rays.{no_ray, twice_middle, ray_with}
-use Rattle.clip_core.specs.Inner.Hulls.{twice_across, misses, takes, IsIn, IsMore, IsHull, AreHulls}
+use Rattle.clip_core.specs.Inner.Rays.{no_ray, twice_middle, twice_across, ray_with}
+use Rattle.clip_core.specs.Inner.Hulls.{misses, takes, IsIn, IsMore, IsHull, AreHulls}
 use Rattle.clip_core.specs.Inner.Raises.{lifted}
+use Rattle.slice_base.specs.Plane.{cross_of}
 use Rattle.slice_base.proofs.Rings.{diff_of, diff-eq, diff-add, diff-sub, diff-mul}
 use Rattle.clip_core.proofs.Signs.{Sign, sign, pp, pn, nn, np, z*, *z}
 use Rattle.clip_core.proofs.Tallies.{plus_assoc}
@@ -32,6 +30,15 @@ turn-sum dx dy a c x z =
     let t = diff_of x in
     let u = diff_of z in
     rw (p.is, q.is, r.is, s.is, t.is, u.is) (simp (diff-add, diff-mul, diff-sub) (diff-eq _ _ _ _ (omega arith)))
+
+-- the same by its parts
+pub turn-is : (f b : Bundle) (r p q dx uy dy ux : ℤ) → r ≡ p -ℤ q → p ≡ dx *ℤ uy → q ≡ dy *ℤ ux → dx ≡ f.high.x -ℤ f.low.x → uy ≡ (b.low.y -ℤ f.low.y) +ℤ (b.high.y -ℤ f.low.y) → dy ≡ f.high.y -ℤ f.low.y → ux ≡ (b.low.x -ℤ f.low.x) +ℤ (b.high.x -ℤ f.low.x)
+    → r ≡ cross_of f.low f.high f.low b.low +ℤ cross_of f.low f.high f.low b.high
+turn-is f b r p q dx uy dy ux is ip iq idx iuy idy iux =
+    is
+    ∙ ((λ i. ip i -ℤ iq i)
+    ∙ ((λ i. (idx i *ℤ iuy i) -ℤ (idy i *ℤ iux i))
+    ∙ sym (turn-sum (f.high.x -ℤ f.low.x) (f.high.y -ℤ f.low.y) (b.low.y -ℤ f.low.y) (b.high.y -ℤ f.low.y) (b.low.x -ℤ f.low.x) (b.high.x -ℤ f.low.x))))
 
 -- the same, from the other end
 turn-split : (dx dy a x : ℤ) → (dx *ℤ a) -ℤ (dy *ℤ x) ≡ (dx *ℤ (a -ℤ (dy +ℤ dy))) +ℤ (dy *ℤ ((dx +ℤ dx) -ℤ x))
@@ -177,22 +184,6 @@ misses-parts f h is =
     let p = and_parts (int_lt (f.low.x +ℤ f.low.x) h.left) (int_lt (f.high.x +ℤ f.high.x) h.left) is in
     (lt-is (f.low.x +ℤ f.low.x) h.left p.0, lt-is (f.high.x +ℤ f.high.x) h.left p.1)
 
-same-across : (f b : Bundle) → same_bundle f b ≡ true → (f.low.x ≡ b.low.x) × (f.high.x ≡ b.high.x)
-same-across f b h =
-    let parts = and_parts (same_point f.low b.low) (same_point f.high b.high) h in
-    (ap (λ (p : Pt). p.x) (same_point-is f.low b.low parts.0), ap (λ (p : Pt). p.x) (same_point-is f.high b.high parts.1))
-
-left-apart : (fl fh bl bh l : ℤ) → (fl +ℤ fl) <ℤ l → (fh +ℤ fh) <ℤ l → l ≤ℤ (bl +ℤ bh) → fl ≡ bl → fh ≡ bh → ⊥
-left-apart fl fh bl bh l f g h el eh = omega (arith, ints)
-
-right-apart : (fl fh bl bh r : ℤ) → r <ℤ (fl +ℤ fl) → r <ℤ (fh +ℤ fh) → (bl +ℤ bh) ≤ℤ r → fl ≡ bl → fh ≡ bh → ⊥
-right-apart fl fh bl bh r f g h el eh = omega (arith, ints)
-
-misses-same : (f : Bundle) (h : Hull) (b : Bundle) → IsIn h b → misses f h ≡ true → same_bundle f b ≡ false
-misses-same f h b at is =
-    let p = misses-parts f h is in
-    false_from_ne_true (same_bundle f b) (λ same. let e = same-across f b same in left-apart f.low.x f.high.x b.low.x b.high.x h.left p.0 p.1 at.left e.0 e.1)
-
 reaches-parts : (f b : Bundle) → reaches f b ≡ true → ((f.low.y +ℤ f.low.y) ≤ℤ (b.low.y +ℤ b.high.y)) × ((b.low.y +ℤ b.high.y) <ℤ (f.high.y +ℤ f.high.y))
 reaches-parts f b is =
     let p = and_parts (int_le (f.low.y +ℤ f.low.y) (b.low.y +ℤ b.high.y)) (int_lt (b.low.y +ℤ b.high.y) (f.high.y +ℤ f.high.y)) is in
@@ -209,7 +200,7 @@ misses-meets f h b at is =
     (turns-right f.low.x f.low.y f.high.x f.high.y b.low.x b.low.y b.high.x b.high.y q.0 q.1 right far))
 
 pub missed-ray : (f : Bundle) (s : Windings) (h : Hull) (r : Ray) → IsIn h r.bundle → misses f h ≡ true → r ≡ ray_with f s r
-missed-ray f s h r at is = ray-same f s r (misses-same f h r.bundle at is) (misses-meets f h r.bundle at is)
+missed-ray f s h r at is = ray-same f s r (misses-meets f h r.bundle at is)
 
 -- the edge is wholly to the right
 
@@ -231,11 +222,6 @@ takes-parts f h is =
       far = lt-is h.right (f.high.x +ℤ f.high.x) r.1;
     }
 
-takes-same : (f : Bundle) (h : Hull) (b : Bundle) → IsIn h b → takes f h ≡ true → same_bundle f b ≡ false
-takes-same f h b at is =
-    let p = takes-parts f h is in
-    false_from_ne_true (same_bundle f b) (λ same. let e = same-across f b same in right-apart f.low.x f.high.x b.low.x b.high.x h.right p.near p.far at.right e.0 e.1)
-
 pub takes-meets : (f : Bundle) (h : Hull) (b : Bundle) → IsIn h b → takes f h ≡ true → (reaches f b && stands_right f b) ≡ true
 takes-meets f h b at is =
     let p = takes-parts f h is in
@@ -254,9 +240,8 @@ met w s false h = absurd (cc)
 
 pub taken-ray : (f : Bundle) (s : Windings) (h : Hull) (by : Windings) (r : Ray) → IsIn h r.bundle → takes f h ≡ true → lifted (plus by s) r ≡ ray_with f s (lifted by r)
 taken-ray f s h by r at is =
-    let p = sym (missed r.net s (same_bundle f r.bundle) (takes-same f h r.bundle at is)) in
     let q = sym (plus_assoc r.sum by s) ∙ met (plus r.sum by) s (reaches f r.bundle && stands_right f r.bundle) (takes-meets f h r.bundle at is) in
-    λ i. record { bundle = r.bundle; index = r.index; net = p i; sum = q i }
+    λ i. record { key = r.key; bundle = r.bundle; index = r.index; sum = q i }
 
 -- a box that has more has what the other has
 pub more-in : (g h : Hull) (b : Bundle) → IsMore g h → IsIn h b → IsIn g b

@@ -11,7 +11,7 @@ use Rattle.clip_core.specs.Keeping.{kept_edge_of}
 use Rattle.clip_core.specs.Inner.Rays.{nowhere, IsTold, HaveRays}
 use Rattle.clip_core.specs.Inner.Indexed.{IsEdgeAt, AreEdgesOf}
 
-same-or-not : (m n : ℕ) → (m ≡ n) ⊎ (m ≢ n)
+pub same-or-not : (m n : ℕ) → (m ≡ n) ⊎ (m ≢ n)
 same-or-not zero zero = inl refl
 same-or-not zero (suc n) = inr (λ e. omega arith)
 same-or-not (suc m) zero = inr (λ e. omega arith)

@@ -1,23 +1,23 @@
 -- An edge added to stretches of rays.
-use Rattle.std.proofs.Common.{◌≡◌, ◌<◌, ◌≤◌, ◌+◌, ◌-◌, ◌*◌, ℕ, suc, ◌+ℤ◌, ◌≤ℤ◌, true, false, cond, List, length, get_or, set, inl, inr, ◌⊎◌, arith, refl, sym, ap, ◌∙◌, subst}
+use Rattle.std.proofs.Common.{◌≡◌, ◌<◌, ◌≤◌, ◌+◌, ◌-◌, ◌*◌, ℕ, suc, ◌+ℤ◌, ◌≤ℤ◌, true, false, cond, ◌/◌, List, [], length, get_or, set, inl, inr, ◌⊎◌, arith, refl, sym, ap, ◌∙◌, subst}
 use Rattle.std.specs.List.{All}
-use Rattle.std.specs.Prelude.{int_le}
+use Rattle.std.specs.Prelude.{nat_le}
 use Rattle.std.proofs.lemmas.List.{length-set, get_or-set_same, get_or-set_other}
-use Rattle.std.proofs.lemmas.List.Elements.{All-set, All-weaker}
+use Rattle.std.proofs.lemmas.List.Elements.{All-nil, All-set, All-weaker}
 use Rattle.edge_cut.specs.declared.passes.Marked.{Marked}
 use Rattle.clip_core.specs.declared.bundles.Bundle.{Bundle}
 use Rattle.clip_core.specs.declared.windings.Windings.{Windings}
 use Rattle.clip_core.specs.declared.rays.Ray.{Ray}
 use Rattle.clip_core.specs.declared.hulls.Hull.{Hull}
-use Rattle.clip_core.specs.Bundles.{same_bundle}
-use Rattle.clip_core.specs.Windings.{none, plus, less}
+use Rattle.clip_core.specs.Windings.{none, plus, less, is_level}
 use Rattle.clip_core.specs.Inner.Small.{AreSmall}
-use Rattle.clip_core.specs.Inner.Rays.{twice_middle, meets_ray, ray_with, is_under, is_up_to, AreRising, IsSmallRay, IsBare, IsFull}
+use Rattle.clip_core.specs.Inner.Rays.{strip_of, meets_ray, ray_with, is_under, is_up_to, AreRising, IsKeyed, IsSmallRay, IsBare, IsFull}
 use Rattle.clip_core.specs.Inner.Hulls.{misses, takes, IsIn, IsHull, AreHulls}
 use Rattle.clip_core.specs.Inner.Raises.{raised, lifted, ray_at, AllSmall, Adds, AreWith}
-use Rattle.clip_core.proofs.Shares.{any-default, below-or-not, under-same, above-same, above-rest, ray-small, ray-wider, wider, plus-right, small-none, IsSoFar, so_far-begins}
+use Rattle.clip_core.proofs.Shares.{any-default, below-or-not, ray-small, ray-wider, wider, plus-right, small-none, IsSoFar, so_far-begins}
 use Rattle.clip_core.proofs.Lifts.{moved, raised-low, raised-mid, raised-high, raised-none, small-plus, small-less}
 use Rattle.clip_core.proofs.Boxed.{missed-ray, taken-ray}
+use Rattle.clip_core.proofs.PassedBy.{under-same, above-same, above-rest, level-same}
 
 pub all-wider : (n m : ℕ) (rays : List Ray) (raises : List Windings) → n ≤ m → AllSmall n rays raises → AllSmall m rays raises
 all-wider n m rays raises le h = record {
@@ -104,7 +104,7 @@ adds-taken f s hull i j rays raises some inside is h share =
 lifted-with : (f : Bundle) (s by : Windings) (r : Ray) → lifted by (ray_with f s r) ≡ ray_with f s (lifted by r)
 lifted-with f s by r =
     let q = moved r.sum (cond (meets_ray f r.bundle) s none) by in
-    λ i. record { bundle = r.bundle; index = r.index; net = plus r.net (cond (same_bundle f r.bundle) s none); sum = q i }
+    λ i. record { key = r.key; bundle = r.bundle; index = r.index; sum = q i }
 
 -- one ray
 pub adds-one : (f : Bundle) (s : Windings) (i : ℕ) (rays : List Ray) (raises : List Windings) (v e : Ray) → i < length rays → v ≡ ray_with f s (get_or rays i e) → AreSmall 1 s → Adds f s i (i + 1) rays raises (set rays i v) raises
@@ -132,15 +132,28 @@ adds-one f s i rays raises v e inside is share = record {
         ap (λ (r : Ray). lifted (raised raises (suc k)) r) q ∙ lifted-with f s (raised raises (suc k)) (get_or rays k d)
 
 -- the rays under the edge
-pub adds-under : (f : Bundle) (s : Windings) (i : ℕ) (rays seen : List Ray) (raises : List Windings) → f.low.y ≤ℤ f.high.y → seen ≡ rays → ((k : ℕ) (d : Ray) → k < i → is_under f (get_or seen k d) ≡ true) → Adds f s 0 i rays raises rays raises
-adds-under f s i rays seen raises rise same under = record {
+pub adds-under : (f : Bundle) (s : Windings) (high strip i : ℕ) (rays seen : List Ray) (raises : List Windings) → strip ≡ strip_of high (f.low.y +ℤ f.low.y) → All (IsKeyed high) rays → seen ≡ rays → ((k : ℕ) (d : Ray) → k < i → is_under strip (get_or seen k d) ≡ true) → Adds f s 0 i rays raises rays raises
+adds-under f s high strip i rays seen raises is keyed same under = record {
   count = refl;
   raises_count = refl;
   before = λ k d lt below. absurd (omega arith);
-  within = λ k d le lt below. under-same f s (ray_at rays raises k d) rise (subst (λ (rs : List Ray). is_under f (get_or rs k d) ≡ true) same (under k d lt));
+  within = λ k d le lt below. under-same f s (ray_at rays raises k d) high strip is (keyed k d below) (subst (λ (rs : List Ray). is_under strip (get_or rs k d) ≡ true) same (under k d lt));
   behind = λ k d le below. refl;
   small = λ n a. all-wider (n + 0) (n + i) rays raises (omega arith) a;
 }
+
+-- a level edge
+pub level-with : (f : Bundle) (s : Windings) (rays : List Ray) (raises : List Windings) → is_level f ≡ true → AreWith f s rays raises rays raises
+level-with f s rays raises is k d below = level-same f s (ray_at rays raises k d) is
+
+-- the keys stay
+pub adds-key : (f : Bundle) (s : Windings) (i j : ℕ) (rays new : List Ray) (raises news : List Windings) → Adds f s i j rays raises new news → (k : ℕ) (d : Ray) → k < length rays → (get_or new k d).key ≡ (get_or rays k d).key
+adds-key f s i j rays new raises news a k d below = pick (below-or-not k i) (below-or-not k j)
+  where
+    pick : (k < i) ⊎ (i ≤ k) → (k < j) ⊎ (j ≤ k) → (get_or new k d).key ≡ (get_or rays k d).key
+    pick (inl g) h = ap (λ (r : Ray). r.key) (a.before k d g below)
+    pick (inr g) (inl h) = ap (λ (r : Ray). r.key) (a.within k d g h below)
+    pick (inr g) (inr h) = ap (λ (r : Ray). r.key) (a.behind k d h below)
 
 -- the bundles stay
 pub adds-bundle : (f : Bundle) (s : Windings) (i j : ℕ) (rays new : List Ray) (raises news : List Windings) → Adds f s i j rays raises new news → (k : ℕ) (d : Ray) → k < length rays → (get_or new k d).bundle ≡ (get_or rays k d).bundle
@@ -161,23 +174,23 @@ hulls-stay width hulls rays new len same h = record {
 }
 
 -- from a ray above the edge on
-pub adds-past : (f : Bundle) (s : Windings) (i : ℕ) (rays new : List Ray) (raises news : List Windings) (e : Ray) → AreRising rays → Adds f s 0 i rays raises new news → i < length new → is_up_to f (get_or new i e) ≡ false → (k : ℕ) (d : Ray) → i ≤ k → k < length rays → is_up_to f (get_or rays k d) ≡ false
-adds-past f s i rays new raises news e rising a inside over k d le below =
+pub adds-past : (f : Bundle) (s : Windings) (strip i : ℕ) (rays new : List Ray) (raises news : List Windings) (e : Ray) → AreRising rays → Adds f s 0 i rays raises new news → i < length new → is_up_to strip (get_or new i e) ≡ false → (k : ℕ) (d : Ray) → i ≤ k → k < length rays → is_up_to strip (get_or rays k d) ≡ false
+adds-past f s strip i rays new raises news e rising a inside over k d le below =
     let there : i < length rays = let q = a.count in omega arith in
-    let same : (get_or new i e).bundle ≡ (get_or rays i d).bundle = adds-bundle f s 0 i rays new raises news a i e there ∙ ap (λ (r : Ray). r.bundle) (any-default rays i e d there) in
-    let here : is_up_to f (get_or rays i d) ≡ false = subst (λ (b : Bundle). int_le (twice_middle b) (f.high.y +ℤ f.high.y) ≡ false) same over in
-    above-rest f rays i k d rising le below here
+    let same : (get_or new i e).key ≡ (get_or rays i d).key = adds-key f s 0 i rays new raises news a i e there ∙ ap (λ (r : Ray). r.key) (any-default rays i e d there) in
+    let here : is_up_to strip (get_or rays i d) ≡ false = subst (λ (n : ℕ). nat_le (n / 8589934592) strip ≡ false) same over in
+    above-rest strip rays i k d rising le below here
 
 -- the whole walk
-pub adds-whole : (f : Bundle) (s : Windings) (i : ℕ) (rays new : List Ray) (raises news : List Windings) → f.low.y ≤ℤ f.high.y → Adds f s 0 i rays raises new news → ((k : ℕ) (d : Ray) → i ≤ k → k < length rays → is_up_to f (get_or rays k d) ≡ false) → AreWith f s rays raises new news
-adds-whole f s i rays new raises news rise a past k d lt = pick (below-or-not k i)
+pub adds-whole : (f : Bundle) (s : Windings) (high strip i : ℕ) (rays new : List Ray) (raises news : List Windings) → strip ≡ strip_of high (f.high.y +ℤ f.high.y) → All (IsKeyed high) rays → Adds f s 0 i rays raises new news → ((k : ℕ) (d : Ray) → i ≤ k → k < length rays → is_up_to strip (get_or rays k d) ≡ false) → AreWith f s rays raises new news
+adds-whole f s high strip i rays new raises news is keyed a past k d lt = pick (below-or-not k i)
   where
     below : k < length rays
     below = let e = a.count in omega arith
 
     pick : (k < i) ⊎ (i ≤ k) → ray_at new news k d ≡ ray_with f s (ray_at rays raises k d)
     pick (inl h) = a.within k d (omega arith) h below
-    pick (inr h) = a.behind k d h below ∙ above-same f s (ray_at rays raises k d) rise (past k d h below)
+    pick (inr h) = a.behind k d h below ∙ above-same f s (ray_at rays raises k d) high strip is (keyed k d below) (past k d h below)
 
 pub whole-small : (n i : ℕ) (f : Bundle) (s : Windings) (rays new : List Ray) (raises news : List Windings) → Adds f s 0 i rays raises new news → i ≤ 100000 → AllSmall n rays raises → AllSmall (n + 100000) new news
 whole-small n i f s rays new raises news a few h =
@@ -189,20 +202,25 @@ raised-nothing : (rays : List Ray) (raises : List Windings) (k : ℕ) (d : Ray) 
 raised-nothing rays raises k d none' =
     let r = get_or rays k d in
     let e : r.sum ≡ plus r.sum (raised raises (suc k)) = sym (ap (λ (u : Windings). plus r.sum u) (raised-none raises (suc k) none') ∙ plus-right r.sum) in
-    λ i. record { bundle = r.bundle; index = r.index; net = r.net; sum = e i }
+    λ i. record { key = r.key; bundle = r.bundle; index = r.index; sum = e i }
 
 pub edges-begin : (all : List Marked) (rays : List Ray) (raises : List Windings) → All IsBare rays → All (λ w. w ≡ none) raises → (k : ℕ) (d : Ray) → k < length rays → IsSoFar 0 all all (get_or rays k d) (ray_at rays raises k d)
 edges-begin all rays raises bare none' k d below =
     subst (λ (r : Ray). IsSoFar 0 all all (get_or rays k d) r) (raised-nothing rays raises k d none') (so_far-begins all (get_or rays k d) (bare k d below))
 
 bare-small : (r : Ray) → IsBare r → IsSmallRay 0 r
-bare-small r h = record { net_small = small-none r.net h.net_none; sum_small = small-none r.sum h.sum_none }
+bare-small r h = small-none r.sum h
 
 pub edges-small : (rays : List Ray) (raises : List Windings) → All IsBare rays → All (λ w. w ≡ none) raises → AllSmall 0 rays raises
 edges-small rays raises bare none' = record {
   rays_small = All-weaker IsBare (IsSmallRay 0) bare-small rays bare;
   raises_small = All-weaker (λ (w : Windings). w ≡ none) (AreSmall 0) small-none raises none';
 }
+
+-- the rays alone stay small
+pub rays-small : (f : Bundle) (s : Windings) (n i j m : ℕ) (rays new : List Ray) → ((raises : List Windings) → Adds f s i j rays raises new raises) → n + j ≤ m → All (IsSmallRay (n + i)) rays → All (IsSmallRay m) new
+rays-small f s n i j m rays new adds le h =
+    (all-wider (n + j) m new [] le ((adds []).small n (record { rays_small = h; raises_small = All-nil (AreSmall (n + i)) }))).rays_small
 
 -- each ray is raised
 

@@ -1,15 +1,13 @@
 // Boxes round the midpoints of rays that stand together, so that an edge passes over all of them at once.
 
 ghost use Rattle.std.specs.Prelude.{◌≡◌, ◌+◌, ◌<◌, ◌≤◌, ◌&&◌, ◌+ℤ◌, ◌≤ℤ◌, ◌++◌, ◌∷◌, [], length, int_lt, int_le, OnOk, IfOk};
-ghost use Rattle.std.specs.Ordering.{int_cmp};
-ghost use Rattle.clip_core.specs.Inner.Rays.{twice_middle};
-ghost use Rattle.clip_core.specs.Inner.Hulls.{twice_across, misses, takes, IsIn, IsMore, IsHull, AreHulls};
+ghost use Rattle.clip_core.specs.Inner.Rays.{twice_middle, twice_across};
+ghost use Rattle.clip_core.specs.Inner.Hulls.{misses, takes, IsIn, IsMore, IsHull, AreHulls};
 
 use crate::bundles::Bundle;
 use crate::rays::Ray;
 use slice_base::NoMemory;
 use std::alloc::Global;
-use std::cmp::Ordering;
 
 /// A box round midpoints: the doubles of its sides.
 #[derive(Clone, Copy)]
@@ -20,7 +18,7 @@ pub(crate) struct Hull {
     right: i64,
 }
 
-pub(crate) fn twice(n: i32) -> i64
+fn twice(n: i32) -> i64
     ensures { result ≡ n +ℤ n }
 {
     n as i64 + n as i64
@@ -28,36 +26,30 @@ pub(crate) fn twice(n: i32) -> i64
 
 // Two numbers, of heights or across.
 #[derive(Clone, Copy)]
-pub(crate) struct Two {
-    pub(crate) first: i64,
-    pub(crate) second: i64,
+struct Two {
+    first: i64,
+    second: i64,
 }
 
-pub(crate) fn is_below(two: Two) -> bool
+fn is_below(two: Two) -> bool
     ensures { result ≡ int_lt two.first two.second }
 {
     two.first < two.second
 }
 
-pub(crate) fn is_at_most(two: Two) -> bool
+fn is_at_most(two: Two) -> bool
     ensures { result ≡ int_le two.first two.second }
 {
     two.first <= two.second
 }
 
-pub(crate) fn compare(two: Two) -> Ordering
-    ensures { result ≡ int_cmp two.first two.second }
-{
-    two.first.cmp(&two.second)
-}
-
-pub(crate) fn twice_middle(b: Bundle) -> i64
+fn twice_middle(b: Bundle) -> i64
     ensures { result ≡ twice_middle b }
 {
     b.low.y as i64 + b.high.y as i64
 }
 
-pub(crate) fn twice_across(b: Bundle) -> i64
+fn twice_across(b: Bundle) -> i64
     ensures { result ≡ twice_across b }
 {
     b.low.x as i64 + b.high.x as i64

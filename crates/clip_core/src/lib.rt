@@ -9,9 +9,11 @@ mod clipping;
 mod hulls;
 mod keeping;
 mod laws;
+mod net_counts;
 mod outlines;
 mod raises;
 mod rays;
+mod strips;
 mod tidying;
 mod windings;
 

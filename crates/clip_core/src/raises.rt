@@ -1,7 +1,7 @@
 // Sums that are raised for a whole stretch of rays at once: a list says at each index by how much the sums
 // from there on are greater.
 
-ghost use Rattle.std.specs.Prelude.{◌≡◌, ◌+◌, ◌-◌, ◌*◌, ◌<◌, ◌≤◌, ◌^◌, ℕ, suc, true, length, set, slice_index_or, IfOk};
+ghost use Rattle.std.specs.Prelude.{◌≡◌, ◌+◌, ◌-◌, ◌*◌, ◌<◌, ◌≤◌, ◌^◌, ℕ, suc, true, length, set, slice_index_or};
 ghost use Rattle.std.specs.List.{All};
 ghost use Rattle.clip_core.specs.Windings.{none, plus, less};
 ghost use Rattle.clip_core.specs.Inner.Small.{AreSmall};
@@ -10,8 +10,6 @@ ghost use Rattle.clip_core.specs.Inner.Raises.{raised, lifted, AllSmall, AreLift
 
 use crate::rays::Ray;
 use crate::windings::Windings;
-use slice_base::NoMemory;
-use std::alloc::Global;
 
 fn plus(m: Windings, n: Windings) -> Windings
     requires m_small { AreSmall (2 ^ 62) m }
@@ -35,21 +33,6 @@ fn less(m: Windings, n: Windings) -> Windings
     }
 }
 
-/// A list of this length that raises nothing.
-pub(crate) fn no_raises(alloc: Global, count: usize) -> Result<Vec<Windings>, NoMemory>
-    ensures count { IfOk result (λ raises. length raises.items ≡ count) }
-    ensures flat { IfOk result (λ raises. All (λ w. w ≡ none) raises.items) }
-{
-    let mut raises = Vec::new(alloc);
-    for index in 0..count {
-        raises.push(Windings {
-            first: 0,
-            second: 0,
-        })?;
-    }
-    Ok(raises)
-}
-
 /// Raises the sums from `i` up to `end`, which is left out.
 pub(crate) fn raise(raises: &mut Vec<Windings>, i: usize, end: usize, share: Windings)
     requires within { end < length raises.old.items }
@@ -70,10 +53,8 @@ fn lifted(by: Windings, r: Ray) -> Ray
     ensures { result ≡ lifted by r }
 {
     Ray {
-        bundle: r.bundle,
-        index: r.index,
-        net: r.net,
         sum: plus(r.sum, by),
+        ..r
     }
 }
 

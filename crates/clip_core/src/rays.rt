@@ -1,76 +1,78 @@
-// Bundles with the winding numbers that all edges give them. The bundles stand by the heights of their
-// midpoints, so that each edge finds those whose rays it can meet in one stretch of the list; and neighbours
+// Bundles with the winding numbers that all edges give them. The bundles stand by strips of heights, in each from
+// left to right, so that each edge finds those whose rays it can meet in one stretch of the list; and neighbours
 // have boxes round their midpoints, so that a tall edge passes over many of them at once.
 
-ghost use Rattle.std.specs.Prelude.{◌≡◌, ◌+◌, ◌-◌, ◌*◌, ◌<◌, ◌≤◌, ◌^◌, ◌&&◌, ◌++◌, ℕ, pos, ◌+ℤ◌, ◌≤ℤ◌, true, List, length, cond, int_lt, int_le, slice_index_or, IfOk};
+ghost use Rattle.std.specs.Prelude.{◌≡◌, ◌+◌, ◌-◌, ◌*◌, ◌/◌, ◌<◌, ◌≤◌, ◌^◌, ◌&&◌, ◌++◌, ℕ, pos, ◌+ℤ◌, ◌≤ℤ◌, true, List, [], length, cond, nat_lt, nat_le, slice_index_or, IfOk};
 ghost use Rattle.std.specs.List.{All};
-ghost use Rattle.std.specs.Ordering.{int_cmp, on, then_cmp};
-ghost use Rattle.std.specs.List.Sorted.{IsPermutation};
-ghost use Rattle.clip_core.specs.Bundles.{bundle_of, same_bundle};
+ghost use Rattle.clip_core.specs.Bundles.{bundle_of};
 ghost use Rattle.clip_core.specs.Windings.{share_of, none, plus, reaches, stands_right};
 ghost use Rattle.clip_core.specs.Inner.Small.{AreSmall};
-ghost use Rattle.clip_core.specs.Inner.Rays.{twice_middle, rays_from, is_under, is_up_to, meets_ray, ray_with};
-ghost use Rattle.clip_core.specs.Inner.Rays.{order_of, AreRising, IsSmallRay, IsBare, IsTold, HaveRays};
+ghost use Rattle.clip_core.specs.Inner.Rays.{strip_of, strip_at, twice_middle, is_under, is_up_to, meets_ray, ray_with};
+ghost use Rattle.clip_core.specs.Inner.Rays.{AreRising, IsKeyed, IsSmallRay, IsBareOf, IsBare, IsRayOf, AreNumbered, IsTold, HaveRays};
 ghost use Rattle.clip_core.specs.Inner.Hulls.{IsHull, AreHulls};
 ghost use Rattle.clip_core.specs.Inner.Raises.{AllSmall, Adds, AreWith, AreFull};
 ghost use Rattle.clip_core.specs.declared.windings.Windings.{Windings};
 
-use crate::bundles::{Bundle, bundle_of, same_bundle};
-use crate::hulls::{
-    Hull, Two, compare, hull_of, hulls_of, is_at_most, is_below, misses, takes, twice,
-    twice_across, twice_middle,
-};
-use crate::raises::{lift, no_raises, raise};
-use crate::windings::{Windings, add_if, reaches, share, stands_right};
+use crate::bundles::{Bundle, bundle_of};
+use crate::hulls::{Hull, hull_of, hulls_of, misses, takes};
+use crate::raises::{lift, raise};
+use crate::strips::{key_of, strip_height, strip_of};
+use crate::windings::{Windings, add_if, is_level, nones, reaches, share, stands_right};
 use edge_cut::Marked;
 use slice_base::NoMemory;
 use std::alloc::Global;
-use std::cmp::Ordering;
 
-/// A bundle, its index among all bundles, its net counts and the winding sums at its midpoint.
+/// A bundle with a key that it is ordered by, its index among all bundles, and the winding sum at its midpoint.
 #[derive(Clone, Copy)]
 pub(crate) struct Ray {
+    pub(crate) key: u64,
     pub(crate) bundle: Bundle,
     pub(crate) index: u32,
-    pub(crate) net: Windings,
     pub(crate) sum: Windings,
 }
 
-// An edge's ends, the low one and the high one, and what it counts.
+// An edge's ends, the low one and the high one, what it counts, and the strips of its ends.
 #[derive(Clone, Copy)]
 struct Member {
     ends: Bundle,
     share: Windings,
+    first: u64,
+    last: u64,
 }
 
-fn member_of(m: Marked) -> Member
+fn member_of(m: Marked, high: u64) -> Member
+    requires { 4 ≤ high }
     ensures ends { result.ends ≡ bundle_of m.edge }
     ensures share { result.share ≡ share_of m }
     ensures small { AreSmall 1 result.share }
-    ensures rising { result.ends.low.y ≤ℤ result.ends.high.y }
+    ensures first { result.first ≡ strip_of high (result.ends.low.y +ℤ result.ends.low.y) }
+    ensures last { result.last ≡ strip_of high (result.ends.high.y +ℤ result.ends.high.y) }
 {
+    let ends = bundle_of(m.edge);
     Member {
-        ends: bundle_of(m.edge),
+        ends,
         share: share(m),
+        first: strip_of(ends.low.y, ends.low.y, high),
+        last: strip_of(ends.high.y, ends.high.y, high),
     }
 }
 
-fn is_under(f: Bundle, r: Ray) -> bool
-    ensures { result ≡ is_under f r }
+fn strip_at(r: Ray) -> u64
+    ensures { result ≡ strip_at r }
 {
-    is_below(Two {
-        first: twice_middle(r.bundle),
-        second: twice(f.low.y),
-    })
+    r.key / 8_589_934_592
 }
 
-fn is_up_to(f: Bundle, r: Ray) -> bool
-    ensures { result ≡ is_up_to f r }
+fn is_under(strip: u64, r: Ray) -> bool
+    ensures { result ≡ is_under strip r }
 {
-    is_at_most(Two {
-        first: twice_middle(r.bundle),
-        second: twice(f.high.y),
-    })
+    strip_at(r) < strip
+}
+
+fn is_up_to(strip: u64, r: Ray) -> bool
+    ensures { result ≡ is_up_to strip r }
+{
+    strip_at(r) <= strip
 }
 
 // Most are told by their boxes, without a product.
@@ -93,19 +95,17 @@ fn ray_with(m: Member, r: Ray) -> Ray
     ensures { result ≡ ray_with m.ends m.share r }
 {
     Ray {
-        bundle: r.bundle,
-        index: r.index,
-        net: add_if(r.net, same_bundle(m.ends, r.bundle), m.share),
         sum: add_if(r.sum, meets_ray(m.ends, r.bundle), m.share),
+        ..r
     }
 }
 
-fn first_up(rays: &[Ray], f: Bundle) -> usize
+fn first_up(rays: &[Ray], strip: u64) -> usize
     requires { AreRising rays.now }
     ensures within { result ≤ length rays.now }
-    ensures before { (k : ℕ) (d : Ray) → k < result → is_under f (slice_index_or rays.now k d) ≡ true }
+    ensures before { (k : ℕ) (d : Ray) → k < result → is_under strip (slice_index_or rays.now k d) ≡ true }
 {
-    rays.partition_point(|r| is_under(f, *r))
+    rays.partition_point(|r| is_under(strip, *r))
 }
 
 // Passes over the rays of a box from `i` on: where they are all to the left of the edge, by raising them, and
@@ -195,7 +195,28 @@ fn add_one(rays: &mut Vec<Ray>, i: usize, m: Member)
     rays[i] = ray_with(m, rays[i]);
 }
 
-// Adds the edge to the ray at `i`, or to a whole box of them from there on, and tells where it came to.
+// Adds the edge to the ray at `i` and to those behind it, up to the next box, or to where they stand above the edge.
+fn add_each(rays: &mut Vec<Ray>, i: usize, m: Member) -> usize
+    requires inside { i < length rays.old.items }
+    requires few { length rays.old.items ≤ 100000 }
+    requires share_small { AreSmall 1 m.share }
+    requires small { All (IsSmallRay (2 ^ 60 + i)) rays.old.items }
+    ensures later { i < result }
+    ensures within { result ≤ length rays.new.items }
+    ensures exact { (raises : List Windings) → Adds m.ends m.share i result rays.old.items raises rays.new.items raises }
+{
+    let end = rays.len().min(i - i % NARROW + NARROW);
+    add_one(rays, i, m);
+    let mut k = i + 1;
+    'rest: while k < end && is_up_to(m.last, rays[k]) {
+        add_one(rays, k, m);
+        k += 1;
+    }
+    k
+}
+
+// Adds the edge to a whole box of rays that begins at `i`, where it takes or misses them all, else to some of them
+// one by one, and tells where it came to.
 fn add_from(
     rays: &mut Vec<Ray>,
     raises: &mut Vec<Windings>,
@@ -223,35 +244,40 @@ fn add_from(
     if end > i {
         return end;
     }
-    add_one(rays, i, m);
-    i + 1
+    add_each(rays, i, m)
 }
 
-// The rays below the edge and those above it stay as they are.
+// The rays in strips below the edge and above it stay as they are, and all do where it is level.
 fn add_edge(
     rays: &mut Vec<Ray>,
     raises: &mut Vec<Windings>,
     wide: &[Hull],
     narrow: &[Hull],
-    m: Member,
+    high: u64,
+    m: Marked,
 )
     requires few { length rays.old.items ≤ 100000 }
     requires enough { length raises.old.items ≡ length rays.old.items + 1 }
     requires wide { AreHulls 256 wide.now rays.old.items }
     requires narrow { AreHulls 16 narrow.now rays.old.items }
-    requires ends_rising { m.ends.low.y ≤ℤ m.ends.high.y }
+    requires tall { 4 ≤ high }
     requires rising { AreRising rays.old.items }
-    requires share_small { AreSmall 1 m.share }
+    requires keyed { All (IsKeyed high) rays.old.items }
     requires small { AllSmall (2 ^ 60) rays.old.items raises.old.items }
     ensures count { length rays.new.items ≡ length rays.old.items }
     ensures raises_count { length raises.new.items ≡ length raises.old.items }
-    ensures exact { AreWith m.ends m.share rays.old.items raises.old.items rays.new.items raises.new.items }
+    ensures exact { AreWith (bundle_of m.edge) (share_of m) rays.old.items raises.old.items
+        rays.new.items raises.new.items }
     ensures small { (n : ℕ) → AllSmall n rays.old.items raises.old.items
         → AllSmall (n + 100000) rays.new.items raises.new.items }
 {
-    let mut i = first_up(rays.as_slice(), m.ends);
-    'walk: while i < rays.len() && is_up_to(m.ends, rays[i]) {
-        i = add_from(rays, raises, wide, narrow, i, m);
+    let member = member_of(m, high);
+    if is_level(member.ends) {
+        return;
+    }
+    let mut i = first_up(rays.as_slice(), member.first);
+    'walk: while i < rays.len() && is_up_to(member.last, rays[i]) {
+        i = add_from(rays, raises, wide, narrow, i, member);
     }
 }
 
@@ -260,6 +286,7 @@ fn add_edges(
     raises: &mut Vec<Windings>,
     wide: &[Hull],
     narrow: &[Hull],
+    high: u64,
     all: &[Marked],
 )
     requires few { length all.now ≤ 100000 }
@@ -268,7 +295,9 @@ fn add_edges(
     requires flat { All (λ w. w ≡ none) raises.old.items }
     requires wide { AreHulls 256 wide.now rays.old.items }
     requires narrow { AreHulls 16 narrow.now rays.old.items }
+    requires tall { 4 ≤ high }
     requires rising { AreRising rays.old.items }
+    requires keyed { All (IsKeyed high) rays.old.items }
     requires bare { All IsBare rays.old.items }
     ensures count { length rays.new.items ≡ length rays.old.items }
     ensures raises_count { length raises.new.items ≡ length raises.old.items }
@@ -276,63 +305,53 @@ fn add_edges(
     ensures small { AllSmall (2 ^ 40) rays.new.items raises.new.items }
 {
     for m in all {
-        add_edge(rays, raises, wide, narrow, member_of(*m));
+        add_edge(rays, raises, wide, narrow, high, *m);
     }
 }
 
-fn rays_from(alloc: Global, bundles: &[Bundle]) -> Result<Vec<Ray>, NoMemory>
-    requires { length bundles.now ≤ 100000 }
-    ensures { IfOk result (λ rays. rays.items ≡ rays_from 0 bundles.now) }
+fn ray_from(bundle: Bundle, index: usize, high: u64) -> Ray
+    requires few { index < 100000 }
+    requires tall { 4 ≤ high }
+    ensures bundle { result.bundle ≡ bundle }
+    ensures index { result.index ≡ index }
+    ensures keyed { IsKeyed high result }
+    ensures bare { IsBare result }
 {
-    let mut rays = Vec::new(alloc);
-    let none = Windings {
-        first: 0,
-        second: 0,
-    };
+    Ray {
+        key: key_of(bundle, high),
+        bundle,
+        index: index as u32,
+        sum: Windings {
+            first: 0,
+            second: 0,
+        },
+    }
+}
+
+fn rays_from(alloc: Global, bundles: &[Bundle], high: u64) -> Result<Vec<Ray>, NoMemory>
+    requires few { length bundles.now ≤ 100000 }
+    requires tall { 4 ≤ high }
+    ensures count { IfOk result (λ rays. length rays.items ≡ length bundles.now) }
+    ensures are { IfOk result (λ rays. All (IsBareOf high bundles.now) rays.items) }
+    ensures numbered { IfOk result (λ rays. AreNumbered rays.items) }
+{
+    let mut rays = Vec::with_capacity(alloc, bundles.len())?;
     for index in 0..bundles.len() {
-        rays.push(Ray {
-            bundle: bundles[index],
-            index: index as u32,
-            net: none,
-            sum: none,
-        })?;
+        rays.push(ray_from(bundles[index], index, high))?;
     }
     Ok(rays)
 }
 
-fn by_height(r: Ray, s: Ray) -> Ordering
-    ensures { result ≡ int_cmp (twice_middle r.bundle) (twice_middle s.bundle) }
-{
-    compare(Two {
-        first: twice_middle(r.bundle),
-        second: twice_middle(s.bundle),
-    })
-}
-
-fn by_across(r: Ray, s: Ray) -> Ordering
-    ensures { result ≡ int_cmp (r.bundle.low.x +ℤ r.bundle.high.x) (s.bundle.low.x +ℤ s.bundle.high.x) }
-{
-    compare(Two {
-        first: twice_across(r.bundle),
-        second: twice_across(s.bundle),
-    })
-}
-
-// By height, and then from left to right, so that those of one height stand in few boxes.
-fn order(r: Ray, s: Ray) -> Ordering
-    ensures { result ≡ order_of r s }
-{
-    by_height(r, s).then(by_across(r, s))
-}
-
-fn sorted_rays(alloc: Global, bundles: &[Bundle]) -> Result<Vec<Ray>, NoMemory>
-    requires { length bundles.now ≤ 100000 }
-    ensures few { IfOk result (λ rays. length rays.items ≤ 100000) }
-    ensures moved { IfOk result (λ rays. IsPermutation (rays_from 0 bundles.now) rays.items) }
+fn sorted_rays(alloc: Global, bundles: &[Bundle], high: u64) -> Result<Vec<Ray>, NoMemory>
+    requires few { length bundles.now ≤ 100000 }
+    requires tall { 4 ≤ high }
+    ensures count { IfOk result (λ rays. length rays.items ≡ length bundles.now) }
+    ensures are { IfOk result (λ rays. All (IsBareOf high bundles.now) rays.items) }
+    ensures each { IfOk result (λ rays. HaveRays bundles.now rays.items) }
     ensures rising { IfOk result (λ rays. AreRising rays.items) }
 {
-    let mut rays = rays_from(alloc, bundles)?;
-    rays.sort_unstable_by(|r, s| order(*r, *s));
+    let mut rays = rays_from(alloc, bundles, high)?;
+    rays.sort_unstable_by_key(|r| r.key);
     Ok(rays)
 }
 
@@ -347,15 +366,17 @@ pub(crate) fn rays_of(
     ensures told { IfOk result (λ rays. All (IsTold all.now bundles.now) rays.items) }
     ensures each { IfOk result (λ rays. HaveRays bundles.now rays.items) }
 {
-    let mut rays = sorted_rays(alloc, bundles)?;
+    let high = strip_height(bundles);
+    let mut rays = sorted_rays(alloc, bundles, high)?;
     let wide = hulls_of(alloc, rays.as_slice(), WIDE)?;
     let narrow = hulls_of(alloc, rays.as_slice(), NARROW)?;
-    let mut raises = no_raises(alloc, rays.len() + 1)?;
+    let mut raises = nones(alloc, rays.len() + 1)?;
     add_edges(
         &mut rays,
         &mut raises,
         wide.as_slice(),
         narrow.as_slice(),
+        high,
         all,
     );
     lift(&mut rays, raises.as_slice());

@@ -3,11 +3,7 @@ use Rattle.std.specs.Prelude.{ℕ, ℤ, ◌+◌, ◌*◌, ◌+ℤ◌, ◌≤◌,
 use Rattle.clip_core.specs.declared.bundles.Bundle.{Bundle}
 use Rattle.clip_core.specs.declared.hulls.Hull.{Hull}
 use Rattle.clip_core.specs.declared.rays.Ray.{Ray}
-use Rattle.clip_core.specs.Inner.Rays.{twice_middle}
-
--- twice how far across lies the bundle's midpoint
-abbrev pub twice_across : Bundle → ℤ
-twice_across b = b.low.x +ℤ b.high.x
+use Rattle.clip_core.specs.Inner.Rays.{twice_middle, twice_across}
 
 -- the edge with these ends stands wholly to the left of the box
 abbrev pub misses : Bundle → Hull → Bool

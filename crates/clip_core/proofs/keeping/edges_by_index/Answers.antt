@@ -14,5 +14,5 @@ loop-ray-preserved c =
     let h = c.loop-ray.invariant in
     record {
       count = length-set c.loop-ray.slots.items r.index c.kept_edge.result ∙ h.count;
-      so_far = put-edge c.args.operation c.args.all.now c.args.bundles.now c.loop-ray.slots.items rays i r c.kept_edge.result (c.requires i no_ray below) (λ d. any-default rays i d no_ray below) h.count c.kept_edge.ensures h.so_far;
+      so_far = put-edge c.args.operation c.args.all.now c.args.bundles.now c.loop-ray.slots.items rays i r c.kept_edge.result (c.requires.told i no_ray below) (λ d. any-default rays i d no_ray below) h.count c.kept_edge.ensures h.so_far;
     }

@@ -13,5 +13,5 @@ kept_edges_of-requires-clause-exact c k below =
     let slots = c.in_ok-slots.slots.items in
     let rays = c.in_ok-rays.rays.items in
     let are : AreEdgesOf c.args.operation all bundles slots rays = subst (λ (rs : List Ray). AreEdgesOf c.args.operation all bundles slots rs) c.as_slice.ensures.value c.in_ok-slots.ensures.exact in
-    subst (λ (os : List (Option Edge)). IsEdgeAt c.args.operation all bundles os k) (sym c.as_slice-2.ensures.value)
+    subst (λ (os : List (Option Edge)). IsEdgeAt c.args.operation all bundles os k) (sym c.as_slice-3.ensures.value)
     (each-placed c.args.operation all bundles slots rays c.in_ok-rays.ensures.each are k no_ray below)

@@ -1,51 +1,86 @@
-use Rattle.std.proofs.Common.{◌≡◌, ◌<◌, ◌^◌, length, get_or, arith, ◌∙◌, sym, ap, false}
+use Rattle.std.proofs.Common.{◌≡◌, ◌<◌, ◌≤◌, ◌+◌, ◌^◌, List, length, get_or, arith, ◌∙◌, sym, ap, false, refl, subst}
+use Rattle.clip_core.specs.declared.bundles.Bundle.{Bundle}
+use Rattle.clip_core.specs.declared.windings.Windings.{Windings}
 use Rattle.clip_core.specs.declared.rays.Ray.{Ray}
+use Rattle.clip_core.specs.Bundles.{bundle_of}
+use Rattle.clip_core.specs.Windings.{share_of}
 use Rattle.clip_core.specs.Inner.Rays.{is_up_to}
-use Rattle.clip_core.proofs.Stretches.{adds-under, adds-both, adds-bundle, hulls-stay, adds-past, adds-whole, whole-small}
+use Rattle.clip_core.specs.Inner.Raises.{AreWith}
+use Rattle.clip_core.proofs.Stretches.{all-wider, level-with, adds-under, adds-both, adds-bundle, hulls-stay, adds-past, adds-whole, whole-small}
 use Rattle.clip_core.proofs.rays.add_edge.Goals as goal
+
+as-marked : (f g : Bundle) (s t : Windings) (rays new : List Ray) (raises news : List Windings) → f ≡ g → s ≡ t → AreWith f s rays raises new news → AreWith g t rays raises new news
+as-marked f g s t rays new raises news e h a = subst (λ (b : Bundle). AreWith b t rays raises new news) e (subst (λ (w : Windings). AreWith f w rays raises new news) h a)
+
+pub returns-then-is_level : goal.returns-then-is_level
+returns-then-is_level c =
+    let rays = c.args.rays.now.items in
+    let raises = c.args.raises.now.items in
+    let m = c.member_of-member.result in
+    record {
+      count = refl;
+      raises_count = refl;
+      exact = as-marked m.ends (bundle_of c.args.m.edge) m.share (share_of c.args.m) rays rays raises raises c.member_of-member.ensures.ends c.member_of-member.ensures.share (level-with m.ends m.share rays raises (sym c.is_level.ensures ∙ c.if-is_level.true));
+      small = λ n a. all-wider n (n + 100000) rays raises (omega arith) a;
+    }
 
 pub walk-init : goal.walk-init
 walk-init c =
     let same = ap length c.as_slice.ensures.value in
+    let m = c.member_of-member.result in
     record {
       within = omega (arith, c.first_up-i.ensures.within, same);
-      adds = adds-under c.args.m.ends c.args.m.share c.first_up-i.result c.args.rays.now.items c.as_slice.result.now c.args.raises.now.items c.requires.ends_rising c.as_slice.ensures.value c.first_up-i.ensures.before;
+      adds = adds-under m.ends m.share c.args.high m.first c.first_up-i.result c.args.rays.now.items c.as_slice.result.now c.args.raises.now.items c.member_of-member.ensures.first c.requires.keyed c.as_slice.ensures.value c.first_up-i.ensures.before;
     }
 
 pub walk-preserved : goal.walk-preserved
 walk-preserved c =
     let h = c.walk.invariant in
+    let m = c.member_of-member.result in
     record {
       within = c.add_from-i.ensures.within;
-      adds = adds-both c.args.m.ends c.args.m.share 0 c.walk.i c.add_from-i.result c.args.rays.now.items c.walk.rays.items c.add_from-i.new.rays.items c.args.raises.now.items c.walk.raises.items c.add_from-i.new.raises.items (omega arith) (omega (arith, c.add_from-i.ensures.later)) h.adds c.add_from-i.ensures.exact;
+      adds = adds-both m.ends m.share 0 c.walk.i c.add_from-i.result c.args.rays.now.items c.walk.rays.items c.add_from-i.new.rays.items c.args.raises.now.items c.walk.raises.items c.add_from-i.new.raises.items (omega arith) (omega (arith, c.add_from-i.ensures.later)) h.adds c.add_from-i.ensures.exact;
     }
 
 pub add_from-i-requires-clause-wide : goal.add_from-i-requires-clause-wide
 add_from-i-requires-clause-wide c =
     let h = c.walk.invariant in
-    hulls-stay 256 c.args.wide.now c.args.rays.now.items c.walk.rays.items h.adds.count (adds-bundle c.args.m.ends c.args.m.share 0 c.walk.i c.args.rays.now.items c.walk.rays.items c.args.raises.now.items c.walk.raises.items h.adds) c.requires.wide
+    let m = c.member_of-member.result in
+    hulls-stay 256 c.args.wide.now c.args.rays.now.items c.walk.rays.items h.adds.count (adds-bundle m.ends m.share 0 c.walk.i c.args.rays.now.items c.walk.rays.items c.args.raises.now.items c.walk.raises.items h.adds) c.requires.wide
 
 pub add_from-i-requires-clause-narrow : goal.add_from-i-requires-clause-narrow
 add_from-i-requires-clause-narrow c =
     let h = c.walk.invariant in
-    hulls-stay 16 c.args.narrow.now c.args.rays.now.items c.walk.rays.items h.adds.count (adds-bundle c.args.m.ends c.args.m.share 0 c.walk.i c.args.rays.now.items c.walk.rays.items c.args.raises.now.items c.walk.raises.items h.adds) c.requires.narrow
+    let m = c.member_of-member.result in
+    hulls-stay 16 c.args.narrow.now c.args.rays.now.items c.walk.rays.items h.adds.count (adds-bundle m.ends m.share 0 c.walk.i c.args.rays.now.items c.walk.rays.items c.args.raises.now.items c.walk.raises.items h.adds) c.requires.narrow
 
 pub add_from-i-requires-clause-small : goal.add_from-i-requires-clause-small
 add_from-i-requires-clause-small c = c.walk.invariant.adds.small (2 ^ 60) c.requires.small
 
 pub returns-else-is_up_to : goal.returns-else-is_up_to
 returns-else-is_up_to c =
-    let f = c.args.m.ends in
-    let s = c.args.m.share in
     let h = c.walk.invariant in
+    let m = c.member_of-member.result in
+    let rays = c.args.rays.now.items in
+    let raises = c.args.raises.now.items in
     let below : c.walk.i < length c.walk.rays.items = omega (arith, c.walk-test.true, c.len.ensures) in
-    let over : is_up_to f (get_or c.walk.rays.items c.walk.i c.index.result.now) ≡ false = ap (λ (r : Ray). is_up_to f r) (sym c.index.ensures) ∙ (sym c.is_up_to.ensures ∙ c.if-is_up_to.false) in
+    let over : is_up_to m.last (get_or c.walk.rays.items c.walk.i c.index.result.now) ≡ false = ap (λ (r : Ray). is_up_to m.last r) (sym c.index.ensures) ∙ (sym c.is_up_to.ensures ∙ c.if-is_up_to.false) in
     record {
       count = h.adds.count;
       raises_count = h.adds.raises_count;
-      exact = adds-whole f s c.walk.i c.args.rays.now.items c.walk.rays.items c.args.raises.now.items c.walk.raises.items c.requires.ends_rising h.adds (adds-past f s c.walk.i c.args.rays.now.items c.walk.rays.items c.args.raises.now.items c.walk.raises.items c.index.result.now c.requires.rising h.adds below over);
-      small = λ n a. whole-small n c.walk.i f s c.args.rays.now.items c.walk.rays.items c.args.raises.now.items c.walk.raises.items h.adds (omega (arith, c.requires.few, h.adds.count, h.within)) a;
+      exact = as-marked m.ends (bundle_of c.args.m.edge) m.share (share_of c.args.m) rays c.walk.rays.items raises c.walk.raises.items c.member_of-member.ensures.ends c.member_of-member.ensures.share
+          (adds-whole m.ends m.share c.args.high m.last c.walk.i rays c.walk.rays.items raises c.walk.raises.items c.member_of-member.ensures.last c.requires.keyed h.adds (adds-past m.ends m.share m.last c.walk.i rays c.walk.rays.items raises c.walk.raises.items c.index.result.now c.requires.rising h.adds below over));
+      small = λ n a. whole-small n c.walk.i m.ends m.share rays c.walk.rays.items raises c.walk.raises.items h.adds (omega (arith, c.requires.few, h.adds.count, h.within)) a;
     }
+
+pub returns-after-walk-clause-exact : goal.returns-after-walk-clause-exact
+returns-after-walk-clause-exact c =
+    let h = c.walk.invariant in
+    let m = c.member_of-member.result in
+    let rays = c.args.rays.now.items in
+    let raises = c.args.raises.now.items in
+    as-marked m.ends (bundle_of c.args.m.edge) m.share (share_of c.args.m) rays c.walk.rays.items raises c.walk.raises.items c.member_of-member.ensures.ends c.member_of-member.ensures.share
+    (λ k d lt. h.adds.within k d (omega arith) (omega (arith, lt, c.walk-test.false, c.len.ensures)) (omega (arith, lt, h.adds.count)))
 
 pub returns-after-walk-clause-small : goal.returns-after-walk-clause-small
 returns-after-walk-clause-small c n a =
@@ -53,4 +88,5 @@ returns-after-walk-clause-small c n a =
     let few = c.requires.few in
     let count = h.adds.count in
     let within = h.within in
-    whole-small n c.walk.i c.args.m.ends c.args.m.share c.args.rays.now.items c.walk.rays.items c.args.raises.now.items c.walk.raises.items h.adds (omega (arith, few, count, within)) a
+    let m = c.member_of-member.result in
+    whole-small n c.walk.i m.ends m.share c.args.rays.now.items c.walk.rays.items c.args.raises.now.items c.walk.raises.items h.adds (omega (arith, few, count, within)) a

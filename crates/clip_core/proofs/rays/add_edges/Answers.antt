@@ -1,6 +1,7 @@
-use Rattle.std.proofs.Common.{◌*◌, ◌+◌, ◌^◌, get_or, refl, arith, ◌∙◌}
+use Rattle.std.proofs.Common.{◌*◌, ◌+◌, ◌^◌, length, get_or, refl, arith, ◌∙◌}
 use Rattle.clip_core.specs.Inner.Raises.{ray_at}
-use Rattle.clip_core.proofs.Shares.{so_far-step, still-rising}
+use Rattle.clip_core.proofs.Shares.{so_far-step, still-rising, still-keyed, share-small}
+use Rattle.clip_core.proofs.Tallies.{nothing}
 use Rattle.clip_core.proofs.Stretches.{hulls-stay, all-wider, edges-begin, edges-small}
 use Rattle.clip_core.proofs.rays.add_edges.Goals as goal
 
@@ -24,7 +25,7 @@ loop-m-preserved c =
       count = c.add_edge.ensures.count ∙ h.count;
       raises_count = c.add_edge.ensures.raises_count ∙ h.raises_count;
       so_far = λ k d below.
-          so_far-step c.args.all.now c.loop-m.m-index (get_or c.args.rays.now.items k d) (ray_at rays raises k d) (ray_at new news k d) c.member_of.result.ends c.member_of.result.share c.loop-m-test.true c.member_of.ensures.ends c.member_of.ensures.share c.member_of.ensures.small (c.add_edge.ensures.exact k d below) (h.so_far k d (omega (arith, c.add_edge.ensures.count, below)));
+          so_far-step c.args.all.now c.loop-m.m-index (get_or c.args.rays.now.items k d) (ray_at rays raises k d) (ray_at new news k d) c.loop-m-test.true (share-small (get_or c.args.all.now c.loop-m.m-index nothing)) (c.add_edge.ensures.exact k d below) (h.so_far k d (omega (arith, c.add_edge.ensures.count, below)));
       small = all-wider (100000 * c.loop-m.m-index + 100000) (100000 * (c.loop-m.m-index + 1)) new news (omega arith) (c.add_edge.ensures.small (100000 * c.loop-m.m-index) h.small);
     }
 
@@ -41,7 +42,12 @@ add_edge-requires-clause-narrow c =
 pub add_edge-requires-clause-rising : goal.add_edge-requires-clause-rising
 add_edge-requires-clause-rising c =
     let h = c.loop-m.invariant in
-    still-rising c.args.rays.now.items c.loop-m.rays.items h.count (λ k d below. (h.so_far k d below).bundle) c.requires.rising
+    still-rising c.args.rays.now.items c.loop-m.rays.items h.count (λ k d below. (h.so_far k d below).key) c.requires.rising
+
+pub add_edge-requires-clause-keyed : goal.add_edge-requires-clause-keyed
+add_edge-requires-clause-keyed c =
+    let h = c.loop-m.invariant in
+    still-keyed c.args.high c.args.rays.now.items c.loop-m.rays.items h.count (λ k d below. (h.so_far k d below).key) (λ k d below. (h.so_far k d below).bundle) c.requires.keyed
 
 pub add_edge-requires-clause-small : goal.add_edge-requires-clause-small
 add_edge-requires-clause-small c =

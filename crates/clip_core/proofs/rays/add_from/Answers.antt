@@ -21,20 +21,24 @@ returns-then-end-i-2-clause-exact c =
     (adds-as f s i c.add_wide-end.result rays c.as_slice.result.now raises mids c.as_slice.ensures.value c.add_wide-end.ensures.exact)
     (adds-as f s i c.add_narrow-end.result rays c.as_slice-2.result.now mids news c.as_slice-2.ensures.value c.add_narrow-end.ensures.exact)
 
+pub add_each-requires-clause-small : goal.add_each-requires-clause-small
+add_each-requires-clause-small c = c.requires.small.rays_small
+
 pub returns-clause-exact : goal.returns-clause-exact
 returns-clause-exact c =
     let f = c.args.m.ends in
     let s = c.args.m.share in
     let i = c.args.i in
     let rays = c.args.rays.now.items in
-    let new = c.add_one.new.rays.items in
+    let new = c.add_each.new.rays.items in
     let raises = c.args.raises.now.items in
     let mids = c.add_wide-end.new.raises.items in
     let news = c.add_narrow-end.new.raises.items in
+    let end = c.add_each.result in
     let stays : c.add_wide-end.result ≡ i = omega (arith, c.add_wide-end.ensures.later, c.if-end-i.false) in
     let stays' : c.add_narrow-end.result ≡ i = omega (arith, c.add_narrow-end.ensures.later, c.if-end-i-2.false) in
-    adds-after f s i c.add_wide-end.result (i + 1) rays rays new raises mids news stays (omega arith)
+    adds-after f s i c.add_wide-end.result end rays rays new raises mids news stays (omega (arith, c.add_each.ensures.later))
     (adds-as f s i c.add_wide-end.result rays c.as_slice.result.now raises mids c.as_slice.ensures.value c.add_wide-end.ensures.exact)
-    (adds-after f s i c.add_narrow-end.result (i + 1) rays rays new mids news news stays' (omega arith)
+    (adds-after f s i c.add_narrow-end.result end rays rays new mids news news stays' (omega (arith, c.add_each.ensures.later))
     (adds-as f s i c.add_narrow-end.result rays c.as_slice-2.result.now mids news c.as_slice-2.ensures.value c.add_narrow-end.ensures.exact)
-    (c.add_one.ensures news))
+    (c.add_each.ensures.exact news))

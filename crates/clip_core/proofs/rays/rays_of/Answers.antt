@@ -1,25 +1,24 @@
 use Rattle.std.proofs.Common.{◌∙◌, List, length, arith, sym, ap, subst}
-use Rattle.std.proofs.lemmas.List.Sorted.{All-permutation}
 use Rattle.clip_core.specs.declared.windings.Windings.{Windings}
-use Rattle.clip_core.specs.Inner.Rays.{rays_from}
 use Rattle.clip_core.specs.Inner.Raises.{AreFull}
-use Rattle.clip_core.proofs.Shares.{IsBareOf, bare-all, all-bare, all-told, each-has}
+use Rattle.clip_core.proofs.Shares.{all-bare, all-keyed, all-told, full-has}
 use Rattle.clip_core.proofs.Stretches.{all-full}
 use Rattle.clip_core.proofs.rays.rays_of.Goals as goal
 
 pub hulls_of-requires-clause-few : goal.hulls_of-requires-clause-few
-hulls_of-requires-clause-few c = let same = ap length c.as_slice.ensures.value in omega (arith, same, c.in_ok-rays.ensures.few)
+hulls_of-requires-clause-few c = let same = ap length c.as_slice.ensures.value in omega (arith, same, c.in_ok-rays.ensures.count, c.requires.bundles_few)
 
 pub hulls_of-requires-2-clause-few : goal.hulls_of-requires-2-clause-few
-hulls_of-requires-2-clause-few c = let same = ap length c.as_slice-2.ensures.value in omega (arith, same, c.in_ok-rays.ensures.few)
+hulls_of-requires-2-clause-few c = let same = ap length c.as_slice-2.ensures.value in omega (arith, same, c.in_ok-rays.ensures.count, c.requires.bundles_few)
 
 pub add_edges-requires-clause-bare : goal.add_edges-requires-clause-bare
-add_edges-requires-clause-bare c =
-    let bundles = c.args.bundles.now in
-    all-bare bundles c.in_ok-rays.rays.items (All-permutation (IsBareOf bundles) (rays_from 0 bundles) c.in_ok-rays.rays.items c.in_ok-rays.ensures.moved (bare-all bundles))
+add_edges-requires-clause-bare c = all-bare c.strip_height-high.result c.args.bundles.now c.in_ok-rays.rays.items c.in_ok-rays.ensures.are
+
+pub add_edges-requires-clause-keyed : goal.add_edges-requires-clause-keyed
+add_edges-requires-clause-keyed c = all-keyed c.strip_height-high.result c.args.bundles.now c.in_ok-rays.rays.items c.in_ok-rays.ensures.are
 
 pub lift-requires-clause-few : goal.lift-requires-clause-few
-lift-requires-clause-few c = omega (arith, c.add_edges.ensures.count, c.in_ok-rays.ensures.few)
+lift-requires-clause-few c = omega (arith, c.add_edges.ensures.count, c.in_ok-rays.ensures.count, c.requires.bundles_few)
 
 pub returns-clause-told : goal.returns-clause-told
 returns-clause-told c =
@@ -30,7 +29,7 @@ returns-clause-told c =
     let new = c.lift.new.rays.items in
     let raises = c.as_slice-5.result.now in
     let full = subst (λ (ws : List Windings). AreFull all sorted rays ws) (sym c.as_slice-5.ensures.value) c.add_edges.ensures.exact in
-    all-told all bundles sorted new (c.lift.ensures.count ∙ c.add_edges.ensures.count) (All-permutation (IsBareOf bundles) (rays_from 0 bundles) sorted c.in_ok-rays.ensures.moved (bare-all bundles)) (all-full all sorted rays new raises c.lift.ensures.count full c.lift.ensures.exact)
+    all-told c.strip_height-high.result all bundles sorted new (c.lift.ensures.count ∙ c.add_edges.ensures.count) c.in_ok-rays.ensures.are (all-full all sorted rays new raises c.lift.ensures.count full c.lift.ensures.exact)
 
 pub returns-clause-each : goal.returns-clause-each
 returns-clause-each c =
@@ -41,4 +40,4 @@ returns-clause-each c =
     let new = c.lift.new.rays.items in
     let raises = c.as_slice-5.result.now in
     let full = subst (λ (ws : List Windings). AreFull all sorted rays ws) (sym c.as_slice-5.ensures.value) c.add_edges.ensures.exact in
-    each-has all bundles sorted new (c.lift.ensures.count ∙ c.add_edges.ensures.count) c.in_ok-rays.ensures.moved (all-full all sorted rays new raises c.lift.ensures.count full c.lift.ensures.exact)
+    full-has all bundles sorted new (c.lift.ensures.count ∙ c.add_edges.ensures.count) c.in_ok-rays.ensures.each (all-full all sorted rays new raises c.lift.ensures.count full c.lift.ensures.exact)

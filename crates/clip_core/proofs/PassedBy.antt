@@ -1,0 +1,104 @@
+-- Strips of heights: a midpoint in a strip below or above those of an edge's ends isn't reached.
+use Rattle.std.proofs.Common.{◌≡◌, ◌<◌, ◌≤◌, ◌+◌, ◌*◌, ◌/◌, ℕ, zero, suc, ℤ, pos, ◌≤ℤ◌, ◌+ℤ◌, ◌&&◌, Bool, true, false, int_lt, List, length, get_or, arith, refl, sym, ap, ◌∙◌, subst}
+use Rattle.std.specs.Prelude.{int_le, nat_le, nat_lt}
+use Rattle.std.specs.List.{All}
+use Rattle.std.specs.List.Sorted.{IsPartitionedBy}
+use Rattle.std.proofs.Math.Nat.{div-mul-le_self, div-zero}
+use Rattle.std.proofs.lemmas.Nat.{le-div}
+use Rattle.std.proofs.lemmas.Bool.Decides.{nat_tests}
+use Rattle.std.proofs.lemmas.Int.{ints}
+use Rattle.std.proofs.lemmas.Bool.{false_from_ne_true}
+use Rattle.clip_core.specs.declared.bundles.Bundle.{Bundle}
+use Rattle.clip_core.specs.declared.windings.Windings.{Windings}
+use Rattle.clip_core.specs.declared.rays.Ray.{Ray}
+use Rattle.clip_core.specs.Windings.{none, plus, reaches, stands_right, is_level}
+use Rattle.clip_core.specs.Inner.Rays.{above_least, strip_of, strip_at, twice_middle, is_under, is_up_to, ray_with, AreRising, IsKeyed}
+use Rattle.clip_core.proofs.Shares.{ray-same, any-default}
+
+above-rises : (x y : ℤ) → x ≤ℤ y → above_least x ≤ above_least y
+above-rises x y h = grind (arith, ints)
+
+le-then : (x y z : ℕ) → x ≤ y → y ≤ z → x ≤ z
+le-then x y z g h = omega arith
+
+pub div-rises : (a b w : ℕ) → a ≤ b → a / w ≤ b / w
+div-rises a b zero le = omega (arith, div-zero a)
+div-rises a b (suc w) le = le-div (a / suc w) b (suc w) (omega arith) (le-then (a / suc w * suc w) a b (div-mul-le_self a (suc w)) le)
+
+strip-rises : (high : ℕ) (x y : ℤ) → x ≤ℤ y → strip_of high x ≤ strip_of high y
+strip-rises high x y le = div-rises (above_least x) (above_least y) high (above-rises x y le)
+
+le-of : (x y : ℤ) → int_le x y ≡ true → x ≤ℤ y
+le-of x y h = grind (arith, ints)
+
+lt-of : (x y : ℤ) → int_lt x y ≡ true → x ≤ℤ y
+lt-of x y h = grind (arith, ints)
+
+not-first : (a b c : Bool) → a ≡ false → ((a && b) && c) ≡ false
+not-first false b c h = refl
+not-first true b c h = absurd (cc)
+
+not-second : (a b c : Bool) → b ≡ false → ((a && b) && c) ≡ false
+not-second false b c h = refl
+not-second true false c h = refl
+not-second true true c h = absurd (cc)
+
+under-is : (m n : ℕ) → nat_lt m n ≡ true → m < n
+under-is m n h = grind (arith, nat_tests)
+
+over-is : (m n : ℕ) → nat_le m n ≡ false → n < m
+over-is m n h = grind (arith, nat_tests)
+
+is-under : (m n : ℕ) → m < n → nat_lt m n ≡ true
+is-under m n h = grind (arith, nat_tests)
+
+is-over : (m n : ℕ) → n < m → nat_le m n ≡ false
+is-over m n h = grind (arith, nat_tests)
+
+pub under-same : (f : Bundle) (s : Windings) (r : Ray) (high strip : ℕ) → strip ≡ strip_of high (f.low.y +ℤ f.low.y) → IsKeyed high r → is_under strip r ≡ true → r ≡ ray_with f s r
+under-same f s r high strip is keyed under =
+    let b = r.bundle in
+    let lt = under-is (strip_at r) strip under in
+    ray-same f s r
+    (not-first (int_le (f.low.y +ℤ f.low.y) (twice_middle b)) (int_lt (twice_middle b) (f.high.y +ℤ f.high.y)) (stands_right f b)
+    (false_from_ne_true (int_le (f.low.y +ℤ f.low.y) (twice_middle b)) (λ h.
+    let e = strip-rises high (f.low.y +ℤ f.low.y) (twice_middle b) (le-of (f.low.y +ℤ f.low.y) (twice_middle b) h) in omega (arith, e, lt, is, keyed))))
+
+pub above-same : (f : Bundle) (s : Windings) (r : Ray) (high strip : ℕ) → strip ≡ strip_of high (f.high.y +ℤ f.high.y) → IsKeyed high r → is_up_to strip r ≡ false → r ≡ ray_with f s r
+above-same f s r high strip is keyed over =
+    let b = r.bundle in
+    let lt = over-is (strip_at r) strip over in
+    ray-same f s r
+    (not-second (int_le (f.low.y +ℤ f.low.y) (twice_middle b)) (int_lt (twice_middle b) (f.high.y +ℤ f.high.y)) (stands_right f b)
+    (false_from_ne_true (int_lt (twice_middle b) (f.high.y +ℤ f.high.y)) (λ h.
+    let e = strip-rises high (twice_middle b) (f.high.y +ℤ f.high.y) (lt-of (twice_middle b) (f.high.y +ℤ f.high.y) h) in omega (arith, e, lt, is, keyed))))
+
+level-not : (l h m : ℤ) → l ≡ h → int_lt m (h +ℤ h) ≡ true → int_le (l +ℤ l) m ≡ false
+level-not l h m is lt = grind (arith, ints)
+
+level-is : (l h : ℤ) → is_level (record { low = record { x = pos 0; y = l }; high = record { x = pos 0; y = h } }) ≡ true → l ≡ h
+level-is l h is = grind (arith, ints)
+
+-- a level edge reaches nothing
+pub level-same : (f : Bundle) (s : Windings) (r : Ray) → is_level f ≡ true → r ≡ ray_with f s r
+level-same f s r is =
+    let m = twice_middle r.bundle in
+    let same = level-is f.low.y f.high.y is in
+    ray-same f s r (pick (int_lt m (f.high.y +ℤ f.high.y)) refl same)
+  where
+    pick : (t : Bool) → int_lt (twice_middle r.bundle) (f.high.y +ℤ f.high.y) ≡ t → f.low.y ≡ f.high.y → (reaches f r.bundle && stands_right f r.bundle) ≡ false
+    pick true lt same = not-first (int_le (f.low.y +ℤ f.low.y) (twice_middle r.bundle)) (int_lt (twice_middle r.bundle) (f.high.y +ℤ f.high.y)) (stands_right f r.bundle) (level-not f.low.y f.high.y (twice_middle r.bundle) same lt)
+    pick false lt same = not-second (int_le (f.low.y +ℤ f.low.y) (twice_middle r.bundle)) (int_lt (twice_middle r.bundle) (f.high.y +ℤ f.high.y)) (stands_right f r.bundle) lt
+
+-- the rays under a strip are a front of the list
+
+pub under-parted : (strip : ℕ) (rays : List Ray) → AreRising rays → IsPartitionedBy (is_under strip) rays
+under-parted strip rays rising i j d le below h =
+    let e = div-rises (get_or rays i d).key (get_or rays j d).key 8589934592 (rising i j d le below) in
+    is-under (strip_at (get_or rays i d)) strip (let lt = under-is (strip_at (get_or rays j d)) strip h in omega (arith, e, lt))
+
+-- from a ray above a strip on, all are
+pub above-rest : (strip : ℕ) (rays : List Ray) (i k : ℕ) (d : Ray) → AreRising rays → i ≤ k → k < length rays → is_up_to strip (get_or rays i d) ≡ false → is_up_to strip (get_or rays k d) ≡ false
+above-rest strip rays i k d rising le below h =
+    let e = div-rises (get_or rays i d).key (get_or rays k d).key 8589934592 (rising i k d le below) in
+    is-over (strip_at (get_or rays k d)) strip (let lt = over-is (strip_at (get_or rays i d)) strip h in omega (arith, e, lt))

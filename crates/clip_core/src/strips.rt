@@ -1,0 +1,52 @@
+// Strips of heights: midpoints stand strip by strip, and in each from left to right, so that those which stand
+// together lie within a small box. Heights and places across are doubled.
+
+ghost use Rattle.std.specs.Prelude.{◌≡◌, ◌≤◌, ◌<◌, ◌/◌, ◌+ℤ◌};
+ghost use Rattle.clip_core.specs.Inner.Rays.{above_least, strip_of, twice_middle};
+
+use crate::bundles::Bundle;
+
+// How far the sum of two coordinates stands above the least one.
+fn above_least(p: i32, q: i32) -> u64
+    ensures exact { result ≡ above_least (p +ℤ q) }
+    ensures small { result < 8589934592 }
+{
+    (p as i64 + q as i64 + 4_294_967_296).unsigned_abs()
+}
+
+/// The strip that holds the height between two.
+pub(crate) fn strip_of(p: i32, q: i32, high: u64) -> u64
+    requires { 4 ≤ high }
+    ensures exact { result ≡ strip_of high (p +ℤ q) }
+    ensures small { result < 2147483648 }
+{
+    above_least(p, q) / high
+}
+
+/// Orders by the strip of the bundle's midpoint, and then by how far across it stands.
+pub(crate) fn key_of(b: Bundle, high: u64) -> u64
+    requires { 4 ≤ high }
+    ensures { result / 8589934592 ≡ strip_of high (twice_middle b) }
+{
+    strip_of(b.low.y, b.high.y, high) * 8_589_934_592 + above_least(b.low.x, b.high.x)
+}
+
+/// How high strips are: a part of what edges are on average, so that most of them reach few strips. Any height is
+/// right.
+pub(crate) fn strip_height(bundles: &[Bundle]) -> u64
+    ensures { 4 ≤ result }
+{
+    let mut heights = 0u64;
+    for b in bundles {
+        heights = heights.saturating_add(u64::from(b.high.y.abs_diff(b.low.y)));
+    }
+    average(heights, bundles.len() as u64).max(4)
+}
+
+// The sixteenth part of an average: that of a doubled height by thirty-two.
+fn average(heights: u64, count: u64) -> u64 {
+    if count == 0 {
+        return 0;
+    }
+    heights / count / 16
+}
