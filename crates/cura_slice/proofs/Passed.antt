@@ -9,14 +9,14 @@ use Rattle.std.proofs.lemmas.Str.{IsUtf8-string_bytes}
 use Rattle.answers.specs.declared.refusal.Refusal.TheVariants.{BadWord}
 use Rattle.cura_slice.specs.Words.{IsWord, AreWords, WhyNoWords}
 
--- these were taken, and of told words those at the place and behind it are left
+-- these were taken, and of told words those at the index and behind it are left
 abbrev pub Left : Option (List (List ℕ)) → List (List ℕ) → ℕ → Type 0
-Left None words place = Unit {0}
-Left (Some told) words place = drop 1 told ≡ words ++ drop place told
+Left None words index = Unit {0}
+Left (Some told) words index = drop 1 told ≡ words ++ drop index told
 
-pub record Passed (told : Option (List (List ℕ))) (words : List (List ℕ)) (place : ℕ) : Type 0 where
-  pub number : place ≡ suc (length words)
-  pub rest : Left told words place
+pub record Passed (told : Option (List (List ℕ))) (words : List (List ℕ)) (index : ℕ) : Type 0 where
+  pub number : index ≡ suc (length words)
+  pub rest : Left told words index
 
 begun : (told : Option (List (List ℕ))) → Left told [] 1
 begun None = tt
@@ -25,34 +25,34 @@ begun (Some told) = refl
 pub nothing_passed : (told : Option (List (List ℕ))) → Passed told [] 1
 nothing_passed told = record { number = refl; rest = begun told }
 
-within : (told : List (List ℕ)) (place : ℕ) (w : List ℕ) → Some w ≡ slice_get told place → drop place told ≡ w ∷ drop (place + 1) told
-within told place w is = grind (arith, slice_get_cases told place, drop_more told place w)
+within : (told : List (List ℕ)) (index : ℕ) (w : List ℕ) → Some w ≡ slice_get told index → drop index told ≡ w ∷ drop (index + 1) told
+within told index w is = grind (arith, slice_get_cases told index, drop_more told index w)
 
-past : (told : List (List ℕ)) (place : ℕ) → None ≡ slice_get told place → drop place told ≡ []
-past told place is = grind (arith, slice_get_cases told place, drop_all place told)
+past : (told : List (List ℕ)) (index : ℕ) → None ≡ slice_get told index → drop index told ≡ []
+past told index is = grind (arith, slice_get_cases told index, drop_all index told)
 
-step : (told : Option (List (List ℕ))) (words : List (List ℕ)) (place : ℕ) (w : List ℕ) → Left told words place → IsWord told place (Some w) → Left told (words ++ w ∷ []) (place + 1)
-step None words place w l is = tt
-step (Some told) words place w l is = l ∙ (ap (λ ws. words ++ ws) (within told place w is) ∙ sym (append_assoc words (w ∷ []) (drop (place + 1) told)))
+step : (told : Option (List (List ℕ))) (words : List (List ℕ)) (index : ℕ) (w : List ℕ) → Left told words index → IsWord told index (Some w) → Left told (words ++ w ∷ []) (index + 1)
+step None words index w l is = tt
+step (Some told) words index w l is = l ∙ (ap (λ ws. words ++ ws) (within told index w is) ∙ sym (append_assoc words (w ∷ []) (drop (index + 1) told)))
 
-pub one_more : (told : Option (List (List ℕ))) (words : List (List ℕ)) (place : ℕ) (w : List ℕ) → Passed told words place → IsWord told place (Some w) → Passed told (words ++ w ∷ []) (place + 1)
-one_more told words place w p is = record {
+pub one_more : (told : Option (List (List ℕ))) (words : List (List ℕ)) (index : ℕ) (w : List ℕ) → Passed told words index → IsWord told index (Some w) → Passed told (words ++ w ∷ []) (index + 1)
+one_more told words index w p is = record {
   number = omega (arith, p.number, length-append words (w ∷ []));
-  rest = step told words place w p.rest is;
+  rest = step told words index w p.rest is;
 }
 
 -- the same of a string that was pushed
-pub one_more_string : {Z : Type 0} (told : Option (List (List ℕ))) (ss ss' : List (String Z)) (s : String Z) (bytes : List ℕ) (place : ℕ) → ss' ≡ ss ++ s ∷ [] → string_bytes s ≡ bytes → Passed told (map string_bytes ss) place → IsWord told place (Some bytes) → Passed told (map string_bytes ss') (place + 1)
-one_more_string told ss ss' s bytes place pushed read p is =
+pub one_more_string : {Z : Type 0} (told : Option (List (List ℕ))) (ss ss' : List (String Z)) (s : String Z) (bytes : List ℕ) (index : ℕ) → ss' ≡ ss ++ s ∷ [] → string_bytes s ≡ bytes → Passed told (map string_bytes ss) index → IsWord told index (Some bytes) → Passed told (map string_bytes ss') (index + 1)
+one_more_string told ss ss' s bytes index pushed read p is =
     let grown : map string_bytes ss' ≡ map string_bytes ss ++ bytes ∷ [] = ap (map string_bytes) pushed ∙ (map-append string_bytes ss (s ∷ []) ∙ ap (λ b. map string_bytes ss ++ b ∷ []) read) in
-    rw grown (one_more told (map string_bytes ss) place bytes p is)
+    rw grown (one_more told (map string_bytes ss) index bytes p is)
 
-all : (told : Option (List (List ℕ))) (words : List (List ℕ)) (place : ℕ) → Left told words place → IsWord told place None → AreWords told words
-all None words place l is = tt
-all (Some told) words place l is = sym (l ∙ (ap (λ ws. words ++ ws) (past told place is) ∙ append-nil words))
+all : (told : Option (List (List ℕ))) (words : List (List ℕ)) (index : ℕ) → Left told words index → IsWord told index None → AreWords told words
+all None words index l is = tt
+all (Some told) words index l is = sym (l ∙ (ap (λ ws. words ++ ws) (past told index is) ∙ append-nil words))
 
-pub all_passed : (told : Option (List (List ℕ))) (words : List (List ℕ)) (place : ℕ) → Passed told words place → IsWord told place None → AreWords told words
-all_passed told words place p is = all told words place p.rest is
+pub all_passed : (told : Option (List (List ℕ))) (words : List (List ℕ)) (index : ℕ) → Passed told words index → IsWord told index None → AreWords told words
+all_passed told words index p is = all told words index p.rest is
 
 -- words that are strings are UTF-8
 by_recursion : {Z : Type 0} (ss : List (String Z)) → AllByRecursion IsUtf8 (map string_bytes ss)
@@ -74,13 +74,13 @@ not_some (Some x) e h = absurd (cc)
 pub unreadable : {X : Type 0} (r : Option X) (w : List ℕ) → r ≡ None → (IsSome r ↔ IsUtf8 w) → ¬ (IsUtf8 w)
 unreadable r w e valid = λ u. not_some r e (valid.1 u)
 
-pub first_unread : (told : Option (List (List ℕ))) (words : List (List ℕ)) (place : ℕ) (w : List ℕ) → Passed told words place → IsWord told place (Some w) → All IsUtf8 words → ¬ (IsUtf8 w) → WhyNoWords (BadWord place) told
-first_unread None words place w p is read unread = tt
-first_unread (Some told) words place w p is read unread = record {
+pub first_unread : (told : Option (List (List ℕ))) (words : List (List ℕ)) (index : ℕ) (w : List ℕ) → Passed told words index → IsWord told index (Some w) → All IsUtf8 words → ¬ (IsUtf8 w) → WhyNoWords (BadWord index) told
+first_unread None words index w p is read unread = tt
+first_unread (Some told) words index w p is read unread = record {
   front = words;
   word = w;
-  rest = drop (place + 1) told;
-  words = p.rest ∙ ap (λ ws. words ++ ws) (within told place w is);
+  rest = drop (index + 1) told;
+  words = p.rest ∙ ap (λ ws. words ++ ws) (within told index w is);
   number = p.number;
   read = read;
   unread = unread;

@@ -4,7 +4,7 @@ use Rattle.std.specs.Str.{bytes_eq}
 use Rattle.cura_slice.specs.declared.help.Topic.{Topic}
 use Rattle.cura_slice.specs.declared.help.Topic.TheVariants.{Usage, Settings, Messages, Version}
 
--- there is a word at that place, from 0, and it is this text
+-- there is a word at that index, from 0, and it is this text
 abbrev pub has_word : List (List ℕ) → ℕ → List ℕ → Bool
 has_word words k text = nat_lt k (length words) && bytes_eq (slice_index_or words k []) text
 

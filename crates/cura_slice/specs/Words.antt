@@ -5,10 +5,10 @@ use Rattle.std.specs.Str.{IsUtf8}
 use Rattle.answers.specs.declared.refusal.Refusal.{Refusal}
 use Rattle.answers.specs.declared.refusal.Refusal.TheVariants as refusal
 
--- where the words are told, this is the one at that place, 0 that of the program's name; none behind the last
+-- where the words are told, this is the one at that index, 0 that of the program's name; none behind the last
 abbrev pub IsWord : Option (List (List ℕ)) → ℕ → Option (List ℕ) → Type 0
-IsWord None place word = Unit {0}
-IsWord (Some told) place word = word ≡ slice_get told place
+IsWord None index word = Unit {0}
+IsWord (Some told) index word = word ≡ slice_get told index
 
 -- where they are told, these are all that stand behind the program's name
 abbrev pub AreWords : Option (List (List ℕ)) → List (List ℕ) → Type 0

@@ -39,15 +39,15 @@ fn is_gen(words: &[String]) -> bool {
     }
 }
 
-// What is wrong with the word at that place.
-fn word_fault(words: &[String], place: usize, word: &str) -> &'static str {
-    if place == 0 {
+// What is wrong with the word at that index.
+fn word_fault(words: &[String], index: usize, word: &str) -> &'static str {
+    if index == 0 {
         return " is no command: slice, serial, check, gen";
     }
     if is_gen(words) {
         return " fits nowhere: cura_slice gen NUMBER -o FILE, and the number is at most 4294967295";
     }
-    if is_taken(words, place) {
+    if is_taken(words, index) {
         return " is no pair: -s KEY=VALUE";
     }
     if word == "-o" || word == "-s" {
@@ -72,14 +72,14 @@ fn push_word_advice(text: &mut Vec<u8>, words: &[String], index: u64) -> Result<
     if wants_usage(words) {
         return push(text, USAGE.as_bytes());
     }
-    let place = index.saturating_sub(1) as usize;
-    if place >= words.len() {
+    let at = index.saturating_sub(1) as usize;
+    if at >= words.len() {
         return push_line(text, "a number is wanted: cura_slice gen NUMBER -o FILE");
     }
-    let word = words[place].as_str();
+    let word = words[at].as_str();
     push(text, b"advice: ")?;
     push_word(text, word.as_bytes())?;
-    push(text, word_fault(words, place, word).as_bytes())?;
+    push(text, word_fault(words, at, word).as_bytes())?;
     push(text, b"; see cura_slice --help\n")
 }
 
@@ -102,8 +102,8 @@ fn is_of(item: &Item, scope: Scope, key: &[u8]) -> bool {
     }
 }
 
-// The place of the one pair of that key and scope; none where there are several, or a settings file might have one.
-fn place_of_pair(items: &[Item], scope: Scope, key: &[u8]) -> Option<usize> {
+// The index of the one pair of that key and scope; none where there are several, or a settings file might have one.
+fn index_of_pair(items: &[Item], scope: Scope, key: &[u8]) -> Option<usize> {
     let mut found = None;
     for (i, item) in items.iter().enumerate() {
         if matches!(item, Item::Settings(_)) {
@@ -126,10 +126,10 @@ fn push_given(
     scope: Scope,
     key: &[u8],
 ) -> Result<(), NoMemory> {
-    let Some(place) = place_of_pair(items, scope, key) else {
+    let Some(index) = index_of_pair(items, scope, key) else {
         return Ok(());
     };
-    match items.get(place) {
+    match items.get(index) {
         Some(
             Item::Pair(
                 Pair {

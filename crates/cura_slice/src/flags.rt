@@ -5,11 +5,11 @@ fn takes_next(word: &str) -> bool {
     word == "-j" || word == "-l" || word == "-s" || word == "-o"
 }
 
-/// Whether the word at that place, from 0, is taken by the one before; the first, the command, takes none.
-pub(crate) fn is_taken(words: &[String], place: usize) -> bool {
+/// Whether the word at that index, from 0, is taken by the one before; the first, the command, takes none.
+pub(crate) fn is_taken(words: &[String], index: usize) -> bool {
     let mut taken = false;
     for (i, word) in words.iter().enumerate() {
-        if i == place {
+        if i == index {
             return taken;
         }
         taken = i > 0 && !taken && takes_next(word.as_str());

@@ -156,11 +156,11 @@ pub enum Topic {
     Version,
 }
 
-// Whether there is a word at that place, and it is this text.
-fn has_word(words: &[String], place: usize, text: &str) -> bool
-    ensures { result ≡ has_word (map string_bytes words.now) place text.now }
+// Whether there is a word at that index, and it is this text.
+fn has_word(words: &[String], index: usize, text: &str) -> bool
+    ensures { result ≡ has_word (map string_bytes words.now) index text.now }
 {
-    place < words.len() && words[place].as_bytes() == text.as_bytes()
+    index < words.len() && words[index].as_bytes() == text.as_bytes()
 }
 
 /// What the words ask of the program itself, none where they are a job's.

@@ -28,9 +28,9 @@ pub trait CommandLine {
     /// Its words, that of the program's name first, where it tells them.
     ghost words: { Self → Option (List (List ℕ)) };
 
-    /// The word at that place, 0 that of the program's name; none behind the last.
-    fn word(&self, alloc: Global, place: u64) -> Result<Option<Text>, NoMemory>
-        ensures { IfOk result (IsWord (words self.now) place) };
+    /// The word at that index, 0 that of the program's name; none behind the last.
+    fn word(&self, alloc: Global, index: u64) -> Result<Option<Text>, NoMemory>
+        ensures { IfOk result (IsWord (words self.now) index) };
 }
 
 /// The words behind the program's name; `BadWord` with the number of the first word, from 1, that isn't
@@ -40,11 +40,11 @@ pub fn given<L: CommandLine>(alloc: Global, line: &L) -> Result<Vec<String>, Ref
     ensures refused { IfErr result (λ r. WhyNoWords r (L.words line.now)) }
 {
     let mut words = Vec::new(alloc);
-    for place in 1..u64::MAX {
-        match line.word(alloc, place) {
+    for index in 1..u64::MAX {
+        match line.word(alloc, index) {
             Ok(Some(bytes)) => {
                 let Some(text) = bytes.as_str() else {
-                    return Err(Refusal::BadWord { index: place });
+                    return Err(Refusal::BadWord { index });
                 };
                 let word = match String::from_str(alloc, text) {
                     Ok(word) => word,
@@ -83,9 +83,9 @@ impl<E: Env> SystemLine<E> {
     }
 
     // A word that may be long.
-    fn long_word(&self, alloc: Global, place: u64) -> Result<Option<Text>, NoMemory> {
+    fn long_word(&self, alloc: Global, index: u64) -> Result<Option<Text>, NoMemory> {
         let mut room = vec![in alloc; 0u8; MOST_BYTES]?;
-        match self.env.arg(place as usize, room.as_mut_slice()) {
+        match self.env.arg(index as usize, room.as_mut_slice()) {
             Ok(length) => Ok(Some(Text::of(alloc, &room[..length])?)),
             Err(FillError::NotPresent) => Ok(None),
             Err(FillError::TooLong) => Err(NoMemory),
@@ -98,12 +98,12 @@ impl<E: Env> CommandLine for SystemLine<E> {
 
     ghost words = { λ _. None };
 
-    fn word(&self, alloc: Global, place: u64) -> Result<Option<Text>, NoMemory> {
+    fn word(&self, alloc: Global, index: u64) -> Result<Option<Text>, NoMemory> {
         let mut room = [0u8; MANY_BYTES];
-        match self.env.arg(place as usize, &mut room) {
+        match self.env.arg(index as usize, &mut room) {
             Ok(length) => Ok(Some(Text::of(alloc, &room[..length])?)),
             Err(FillError::NotPresent) => Ok(None),
-            Err(FillError::TooLong) => self.long_word(alloc, place),
+            Err(FillError::TooLong) => self.long_word(alloc, index),
         }
     }
 }

@@ -83,7 +83,9 @@ fn bounded_filament(diameter: u32, volume: u128) -> i128
     filament_through(diameter, volume)
 }
 
-pub(crate) fn extruded(x: &ExtruderSettings, volume: u128) -> i128
+/// The filament of an extruder for a volume by its flow: in hundred-thousandths of a millimetre, for so many µm³ times
+/// percent.
+pub fn extruded(x: &ExtruderSettings, volume: u128) -> i128
     requires { volume < 2 ^ 116 }
     ensures exact { result ≡ extruded_of x.now volume }
     ensures small { unsigned_abs result < 2 ^ 99 }

@@ -14,5 +14,6 @@ mod progress;
 mod tests;
 mod writer;
 
+pub use filament::extruded;
 pub use progress::Progress;
 pub use writer::{Unbegun, WriteFault, Writer};

@@ -5,100 +5,14 @@ ghost use Rattle.std.specs.List.{All, sum_by};
 ghost use Rattle.slice_base.specs.Plane.{InSquare};
 ghost use Rattle.plan_types.specs.Paths.{PathValue};
 ghost use Rattle.plan_types.specs.Plans.{moves_of, moves_of_plan, moves_in, time_of_plan, time_in};
-ghost use Rattle.plan_types.specs.Extruders.{extruder_of};
 ghost use Rattle.plan_types.specs.Jobs.{Names};
 ghost use Rattle.plan_types.specs.Steps.{path_count_of};
-ghost use Rattle.plan_types.specs.Leads.{end_of_points, end_of_paths, end_of_plans, time_of_move, lead_to_points, lead_of, before_of, timed_paths, is_first_after, timed_plans, with_lead};
+ghost use Rattle.plan_types.specs.Leads.{before_of, timed_paths, is_first_after, timed_plans, with_lead};
 ghost use Rattle.preheat_plan.specs.Past.{rules_of};
 
-use crate::extruders::extruder;
 use plan_types::{ExtruderPlan, Job, LayerPlan, Path};
-use settings_core::ExtruderSettings;
-use slice_base::{Pt, length};
-
-// ---- where one stands
-
-fn end_of_points(at: Pt, points: &[Pt]) -> Pt
-    requires from_in { InSquare 1700000 at }
-    requires inside { All (InSquare 1700000) points.now }
-    ensures exact { result ≡ end_of_points at points.now }
-    ensures inside { InSquare 1700000 result }
-{
-    let mut end = at;
-    for p in points {
-        end = *p;
-    }
-    end
-}
-
-fn end_of_path(at: Pt, path: &Path) -> Pt
-    requires from_in { InSquare 1700000 at }
-    ensures exact { result ≡ end_of_points at path.now.points }
-    ensures inside { InSquare 1700000 result }
-{
-    end_of_points(at, path.points.points())
-}
-
-fn end_of_paths(at: Pt, paths: &[Path]) -> Pt
-    requires from_in { InSquare 1700000 at }
-    ensures exact { result ≡ end_of_paths at paths.now }
-    ensures inside { InSquare 1700000 result }
-{
-    let mut end = at;
-    for path in paths {
-        end = end_of_path(end, path);
-    }
-    end
-}
-
-// Where one stands after the paths of some extruders.
-pub(crate) fn end_of_plans(at: Pt, plans: &[ExtruderPlan]) -> Pt
-    requires from_in { InSquare 1700000 at }
-    ensures exact { result ≡ end_of_plans at plans.now }
-    ensures inside { InSquare 1700000 result }
-{
-    let mut end = at;
-    for x in plans {
-        end = end_of_paths(end, x.paths.items());
-    }
-    end
-}
-
-// ---- the lead
-
-fn time_of_move(distance: u64, speed: u32) -> u64
-    requires some { 1 ≤ speed }
-    requires small { distance ≤ 5656855 }
-    ensures exact { result ≡ time_of_move distance speed }
-    ensures small { result ≤ 5656855000000 }
-{
-    (distance * 1_000_000).div_ceil(u64::from(speed))
-}
-
-fn lead_to_path(e: &ExtruderSettings, at: Pt, path: &Path) -> u64
-    requires from_in { InSquare 1700000 at }
-    ensures exact { result ≡ lead_to_points at e.now.speed_travel path.now.points }
-    ensures small { result ≤ 5656855000000 }
-{
-    match path.points.points() {
-        [] => 0,
-        [first, ..] => time_of_move(length(at, *first), e.speed_travel),
-    }
-}
-
-fn lead(job: &Job, at: Pt, plans: &[ExtruderPlan]) -> u64
-    requires known { All (Names job.now.settings) plans.now }
-    requires from_in { InSquare 1700000 at }
-    ensures exact { result ≡ lead_of (rules_of job.now).speed at plans.now }
-    ensures small { result ≤ 5656855000000 }
-{
-    for x in plans {
-        if let Some(path) = x.paths.items().first() {
-            return lead_to_path(extruder(job, x.extruder), at, path);
-        }
-    }
-    0
-}
+use preheat_plan::lead;
+use slice_base::Pt;
 
 // ---- the time from the layer's first boundary to each path
 

@@ -10,12 +10,11 @@ ghost use Rattle.preheat_plan.specs.Past.{rules_of};
 ghost use Rattle.preheat_plan.specs.Held.{front_in, place_in, heated, switched, moved, used, used_all};
 ghost use Rattle.plan_store.specs.Inner.Sound.{held_of, end_of_held, IsSound};
 
-use crate::extruders::extruder;
 use crate::marks::{Marks, at};
 use crate::store::Store;
 use plan_types::{Insert, Job};
 use preheat_core::{Spot, elapsed, place, spot_at};
-use preheat_plan::{Left, Use};
+use preheat_plan::{Left, Use, extruder};
 
 fn front(marks: Marks, e: u8) -> u128
     requires { e < 8 }

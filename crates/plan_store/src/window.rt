@@ -11,14 +11,14 @@ ghost use Rattle.preheat_plan.specs.Held.{use_of, taken, let_go, nothing_held};
 ghost use Rattle.plan_store.specs.Inner.Sound.{held_of, end_of_held, IsSound, IsWhole};
 
 use crate::extruders::extruder_count;
-use crate::leading::{end_of_plans, with_lead};
+use crate::leading::with_lead;
 use crate::marks::Marks;
 use crate::placing::go_all;
 use crate::store::Store;
 use arrayvec::ArrayVec;
 use plan_types::{ExtruderPlan, Job, LayerPlan};
 use preheat_core::{layer_time, path_count};
-use preheat_plan::{Use, eight_at_most};
+use preheat_plan::{Use, eight_at_most, end_of_plans};
 use slice_base::Pt;
 use std::alloc::Global;
 use std::marker::Model;

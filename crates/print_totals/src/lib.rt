@@ -4,7 +4,6 @@
 
 mod amounts;
 mod laws;
-mod leads;
 mod spent;
 
 pub use amounts::{Amounts, amounts_of};

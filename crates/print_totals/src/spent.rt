@@ -11,10 +11,11 @@ ghost use Rattle.print_totals.specs.Spending.{HasSpent, amounts_of};
 ghost use Rattle.print_totals.specs.Inner.Sound.{plus_each};
 
 use crate::amounts::Amounts;
-use crate::leads::{end_of_plans, lead};
+use gcode_write::extruded;
 use plan_types::{Job, LayerPlan};
+use preheat_plan::{end_of_plans, lead};
 use settings_core::ExtruderSettings;
-use slice_base::{Pt, round_div};
+use slice_base::Pt;
 use std::marker::Model;
 
 // ---- sums of eight
@@ -47,32 +48,13 @@ fn plus_each(a: &[u128; 8], b: &[u128; 8]) -> [u128; 8]
 
 // ---- filament
 
-fn square(diameter: u32) -> u64
-    requires low { 500 ≤ diameter }
-    requires high { diameter ≤ 10000 }
-    ensures exact { result ≡ diameter * diameter }
-    ensures low { 250000 ≤ result }
-    ensures high { result ≤ 100000000 }
-{
-    u64::from(diameter) * u64::from(diameter)
-}
-
-// The filament for a volume by its flow in percent.
-fn extruded(x: &ExtruderSettings, volume: u128) -> u128
-    requires { volume < 2 ^ 116 }
-    ensures { result ≡ unsigned_abs (extruded_of x.now volume) }
-{
-    let square = square(x.material_diameter);
-    round_div((volume * 452) as i128, (355 * square) as i128).unsigned_abs()
-}
-
-// The same of a volume at a flow of 100 percent.
+// The filament for a volume at a flow of 100 percent.
 fn flowing(x: &ExtruderSettings, volume: u128) -> u128
     requires { volume ≤ 40000 * 2 ^ 90 }
     ensures { result ≡ unsigned_abs (extruded_of x.now (volume * x.now.material_flow)) }
 {
     let flow = u128::from(x.material_flow);
-    extruded(x, volume * flow)
+    extruded(x, volume * flow).unsigned_abs()
 }
 
 fn filament_for(job: &Job, e: u8, volume: u128) -> u128

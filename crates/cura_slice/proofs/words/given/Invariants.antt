@@ -3,5 +3,5 @@ use Rattle.std.specs.Prelude.{string_bytes}
 use Rattle.cura_slice.proofs.Passed.{Passed}
 use Rattle.cura_slice.proofs.words.given.Given as goal
 
-abbrev pub invariant-loop-place : goal.invariant-loop-place
-invariant-loop-place g l = Passed (g.L.CommandLine.words l.line) (map string_bytes l.words.items) l.place
+abbrev pub invariant-loop-index : goal.invariant-loop-index
+invariant-loop-index g l = Passed (g.L.CommandLine.words l.line) (map string_bytes l.words.items) l.index

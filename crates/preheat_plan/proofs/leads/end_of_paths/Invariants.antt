@@ -1,7 +1,7 @@
 use Rattle.std.proofs.Common.{◌≡◌, drop}
 use Rattle.slice_base.specs.Plane.{InSquare}
 use Rattle.plan_types.specs.Leads.{end_of_paths}
-use Rattle.print_totals.proofs.leads.end_of_paths.Given as goal
+use Rattle.preheat_plan.proofs.leads.end_of_paths.Given as goal
 
 abbrev pub invariant-loop-path : goal.invariant-loop-path
 invariant-loop-path l = record {

@@ -1,7 +1,7 @@
 use Rattle.std.proofs.Common.{◌≡◌, drop}
 use Rattle.slice_base.specs.Plane.{InSquare}
 use Rattle.plan_types.specs.Leads.{end_of_points}
-use Rattle.plan_store.proofs.leading.end_of_points.Given as goal
+use Rattle.preheat_plan.proofs.leads.end_of_points.Given as goal
 
 abbrev pub invariant-loop-p : goal.invariant-loop-p
 invariant-loop-p l = record {

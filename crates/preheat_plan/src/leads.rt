@@ -45,8 +45,8 @@ fn end_of_paths(at: Pt, paths: &[Path]) -> Pt
     end
 }
 
-/// Where one stands after the paths of some extruders.
-pub(crate) fn end_of_plans(at: Pt, plans: &[ExtruderPlan]) -> Pt
+/// Where one stands after the paths of some extruders, from `at` on, in µm.
+pub fn end_of_plans(at: Pt, plans: &[ExtruderPlan]) -> Pt
     requires from_in { InSquare 1700000 at }
     ensures exact { result ≡ end_of_plans at plans.now }
     ensures inside { InSquare 1700000 result }
@@ -78,7 +78,8 @@ fn lead_to_path(e: &ExtruderSettings, at: Pt, path: &Path) -> u64
     }
 }
 
-fn extruder(job: &Job, number: u8) -> &ExtruderSettings
+/// The settings of an extruder that the printer has.
+pub fn extruder(job: &Job, number: u8) -> &ExtruderSettings
     requires known { number < length job.now.settings.extruders }
     ensures { result.now ≡ extruder_of job.now.settings.extruders number }
 {
@@ -86,8 +87,9 @@ fn extruder(job: &Job, number: u8) -> &ExtruderSettings
     &settings.extruders.items()[number as usize]
 }
 
-/// The time of the travel to a layer's first path, µs.
-pub(crate) fn lead(job: &Job, at: Pt, plans: &[ExtruderPlan]) -> u64
+/// The time of the travel from `at` to a layer's first path, µs, at the speed of its extruder; 0 where the layer has
+/// no path.
+pub fn lead(job: &Job, at: Pt, plans: &[ExtruderPlan]) -> u64
     requires known { All (Names job.now.settings) plans.now }
     requires from_in { InSquare 1700000 at }
     ensures exact { result ≡ lead_of (rules_of job.now).speed at plans.now }
