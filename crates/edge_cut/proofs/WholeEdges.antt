@@ -1,5 +1,5 @@
 -- An edge that meets all others at its own ends alone stays whole.
-use Rattle.std.proofs.Common.{◌≡◌, ◌<◌, ℕ, zero, suc, ◌||◌, ◌&&◌, Bool, true, false, List, [], ◌∷◌, ◌++◌, length, get_or, replicate, arith, refl, ap}
+use Rattle.std.proofs.Common.{◌≡◌, zero, suc, ◌||◌, ◌&&◌, Bool, true, false, List, [], ◌∷◌, ◌++◌, length, arith, refl, ap}
 use Rattle.std.specs.Prelude.{int_lt}
 use Rattle.std.specs.Ordering.{int_eq}
 use Rattle.std.specs.List.{Contains}
@@ -9,9 +9,8 @@ use Rattle.edge_cut.specs.declared.stops.Stop.{Stop}
 use Rattle.edge_cut.specs.declared.passes.Marked.{Marked}
 use Rattle.edge_cut.specs.declared.pairs.Pair.{Pair}
 use Rattle.edge_cut.specs.Stops.{stop_at, is_before, stops_of}
-use Rattle.edge_cut.specs.Cut.{pieces_of}
 use Rattle.edge_cut.specs.Ordered.{IsRising, IsEnough}
-use Rattle.edge_cut.specs.Inner.Gathered.{end_stops, gathered}
+use Rattle.edge_cut.specs.Inner.Gathered.{end_stops}
 use Rattle.edge_cut.specs.Inner.Indices.{seconds}
 use Rattle.edge_cut.specs.Inner.Pairs.{IsInside}
 use Rattle.edge_cut.specs.Inner.News.{AreTold}
