@@ -1,5 +1,5 @@
 -- Columns of a width, numbered from the least coordinate on, and the keys that order by them.
-use Rattle.std.proofs.Common.{◌≡◌, ◌<◌, ◌≤◌, ◌*◌, ◌/◌, ◌+◌, ℕ, zero, suc, ℤ, cond, ◌≤ℤ◌, pos, ◌+ℤ◌, Bool, true, false, ◌&&◌, inl, inr, ◌⊎◌, arith, refl, sym, ap}
+use Rattle.std.proofs.Common.{◌≡◌, ◌<◌, ◌≤◌, ◌*◌, ◌/◌, ◌+◌, ℕ, zero, suc, ℤ, cond, ◌≤ℤ◌, Bool, true, false, ◌&&◌, inl, inr, ◌⊎◌, arith, refl}
 use Rattle.std.specs.Prelude.{int_le}
 use Rattle.std.proofs.Math.Nat.{div-mul-le_self, div-zero}
 use Rattle.std.proofs.lemmas.Nat.{le-div}
@@ -7,7 +7,6 @@ use Rattle.std.proofs.lemmas.Int.{ints}
 use Rattle.slice_base.specs.declared.points.Edge.{Edge}
 use Rattle.clip_bands.specs.declared.bands.Span.{Span}
 use Rattle.clip_bands.specs.Indices.{touches}
-use Rattle.edge_cut.specs.Inner.Heights.{height_of, width_of}
 use Rattle.edge_cut.specs.Inner.Pairs.{extent_of, above_least, column_of}
 
 pub above-rises : (x y : ℤ) → x ≤ℤ y → above_least x ≤ above_least y

@@ -20,3 +20,7 @@ meeting_stops e (m ∷ ms) = map (stop_at e) (meeting_of e m.edge) ++ meeting_st
 -- the ends of e, and its meeting points with these edges
 abbrev pub gathered : Edge → List Marked → List Stop
 gathered e ms = stop_at e e.from ∷ stop_at e e.to ∷ meeting_stops e ms
+
+-- the ends of e alone
+abbrev pub end_stops : Edge → List Stop
+end_stops e = stop_at e e.from ∷ stop_at e e.to ∷ []
