@@ -203,7 +203,8 @@ fn add_each(rays: &mut Vec<Ray>, i: usize, m: Member) -> usize
     requires small { All (IsSmallRay (2 ^ 60 + i)) rays.old.items }
     ensures later { i < result }
     ensures within { result ≤ length rays.new.items }
-    ensures exact { (raises : List Windings) → Adds m.ends m.share i result rays.old.items raises rays.new.items raises }
+    ensures exact { (raises : List Windings)
+        → Adds m.ends m.share i result rays.old.items raises rays.new.items raises }
 {
     let end = rays.len().min(i - i % NARROW + NARROW);
     add_one(rays, i, m);

@@ -1,6 +1,7 @@
 -- Bundles with their winding sums, as far as edges were added to them.
 use Rattle.std.specs.Prelude.{ℕ, suc, ℤ, pos, ◌≡◌, ◌+◌, ◌*◌, ◌/◌, ◌+ℤ◌, ◌≤◌, ◌<◌, Bool, cond, ◌&&◌, int_le, nat_lt, nat_le, List, length, slice_index_or, unsigned_abs}
 use Rattle.std.specs.List.{All}
+use Rattle.slice_base.specs.Plane.{cross_of}
 use Rattle.edge_cut.specs.declared.passes.Marked.{Marked}
 use Rattle.clip_core.specs.declared.bundles.Bundle.{Bundle}
 use Rattle.clip_core.specs.declared.windings.Windings.{Windings}
@@ -43,6 +44,10 @@ is_under strip r = nat_lt (strip_at r) strip
 -- the ray stands in no strip above
 abbrev pub is_up_to : ℕ → Ray → Bool
 is_up_to strip r = nat_le (strip_at r) strip
+
+-- twice the cross product of an edge with these ends and the way from its low end to the bundle's midpoint
+abbrev pub twice_turn : Bundle → Bundle → ℤ
+twice_turn f b = cross_of f.low f.high f.low b.low +ℤ cross_of f.low f.high f.low b.high
 
 -- an edge with these ends meets the ray that goes from the bundle's midpoint to the right
 abbrev pub meets_ray : Bundle → Bundle → Bool

@@ -2,7 +2,7 @@ use Rattle.std.proofs.Common.{FitsSigned, w32, w64, rules}
 use Rattle.std.specs.Int.{w128}
 use Rattle.std.proofs.lemmas.Int.{to_z-of_z}
 use Rattle.clip_core.proofs.Boxed.{turn-is}
-use Rattle.clip_core.proofs.windings.turn_of.Goals as goal
+use Rattle.clip_core.proofs.windings.twice_turn.Goals as goal
 
 pub returns : goal.returns
 returns c =
