@@ -6,3 +6,4 @@ pub mod Inners
 pub mod LayerSteps
 pub mod Numbers
 pub mod JobSteps
+pub mod Slots

@@ -4,3 +4,4 @@ pub mod Walls
 pub mod Columns
 pub mod Layers
 pub mod Counts
+pub mod Taking

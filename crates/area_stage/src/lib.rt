@@ -11,6 +11,7 @@ mod outlines;
 mod phases;
 mod skirts;
 mod stage;
+mod taking;
 #[cfg(test)]
 mod tests;
 mod walling;

@@ -16,12 +16,12 @@ ghost use Rattle.area_stage.specs.Inner.Walls.{AreJobWalls, GivesLayerWalls};
 use crate::faults::AreaFault;
 use crate::fills::layer_splits;
 use crate::held::{Column, Filled};
+use crate::taking::worked_out;
 use crate::walling::{JobWalls, LayerWalls, layer_walls, no_walls, with_layer};
 use cross_section::Mesh;
 use settings_core::Settings;
 use slice_base::{Items, NoMemory};
 use std::alloc::Global;
-use std::thread;
 use std::thread::Threads;
 
 /// The walls of so many layers, one layer after another.
@@ -45,20 +45,9 @@ pub(crate) fn job_walls(
     Ok(walls)
 }
 
-// So many results, none worked out yet.
-fn no_results<T: Drop>(alloc: Global, count: u32) -> Result<Vec<Result<T, AreaFault>>, NoMemory>
-    ensures { IfOk result (λ v. length v.items ≡ count) }
-{
-    let mut results = Vec::new(alloc);
-    for _ in 0..count {
-        results.push(Err(AreaFault::NoMemory))?;
-    }
-    Ok(results)
-}
-
-// How many neighbouring layers a thread works out before all threads go on together. Neighbours take about as long as
-// each other; the layers of a mesh's foot and those of its top don't.
-const RUN: u32 = 8;
+// How many layers a thread has in its share of a run, after which all threads go on together: so many that waiting for
+// the last layer of a run costs little, and few enough that a cut that fails ends the work soon.
+const RUN: u32 = 64;
 
 // How many of the layers that are left are worked out next.
 fn next_few(left: u32, threads: u32) -> u32
@@ -68,31 +57,6 @@ fn next_few(left: u32, threads: u32) -> u32
     ensures most { result ≤ left }
 {
     threads.saturating_mul(RUN).min(left)
-}
-
-fn work_out_walls<R: Threads + Sync>(
-    rt: &R,
-    alloc: Global,
-    threads: u32,
-    settings: &Settings,
-    meshes: &[Mesh],
-    from: u32,
-    results: &mut [Result<LayerWalls, AreaFault>],
-)
-    requires threads { 0 < threads }
-    requires as_many { length meshes.now ≡ length settings.now.meshes }
-    requires few { from + length results.old ≤ 40000 }
-    requires low { (k : ℕ) → k < from + length results.old → plane_of settings.now k < 2 ^ 31 }
-    requires inside { All (All (TriIn (around 1000000))) meshes.now }
-    ensures each { (i : ℕ) (d : Result LayerWalls AreaFault) → i < length results.old
-        → GivesLayerWalls settings.now meshes.now (from + i) (slice_index_or results.new i d) }
-{
-    thread::for_each_mut(
-        rt,
-        results,
-        threads as usize,
-        &|k, slot| { *slot = layer_walls(alloc, settings, meshes, from + k as u32) },
-    );
 }
 
 fn walls_at_once<R: Threads + Sync>(
@@ -113,17 +77,14 @@ fn walls_at_once<R: Threads + Sync>(
         → GivesLayerWalls settings.now meshes.now (from + i) (slice_index_or v.items i d)) }
     ensures len { IfOk result (λ v. length v.items ≡ count) }
 {
-    let mut results = no_results(alloc, count)?;
-    work_out_walls(
+    worked_out(
         rt,
         alloc,
         threads,
-        settings,
-        meshes,
         from,
-        results.as_mut_slice(),
-    );
-    Ok(results)
+        count,
+        &|layer| layer_walls(alloc, settings, meshes, layer),
+    )
 }
 
 // The walls of the layers below `from`, and behind them those of so many more layers, worked out at once.
@@ -201,30 +162,6 @@ pub(crate) fn job_splits(
     Ok(splits)
 }
 
-fn work_out_splits<R: Threads + Sync>(
-    rt: &R,
-    alloc: Global,
-    threads: u32,
-    settings: &Settings,
-    columns: &[Column],
-    from: u32,
-    results: &mut [Result<Items<Filled>, AreaFault>],
-)
-    requires threads { 0 < threads }
-    requires as_many { length columns.now ≡ length settings.now.meshes }
-    requires few { from + length results.old ≤ 40000 }
-    requires long { All (λ column. from + length results.old ≤ length column) columns.now }
-    ensures each { (i : ℕ) (d : Result (List Split) AreaFault) → i < length results.old
-        → GivesNumber (layer_splits_of settings.now columns.now) (from + i) (slice_index_or results.new i d) }
-{
-    thread::for_each_mut(
-        rt,
-        results,
-        threads as usize,
-        &|k, slot| { *slot = layer_splits(alloc, settings, columns, from + k as u32) },
-    );
-}
-
 fn splits_at_once<R: Threads + Sync>(
     rt: &R,
     alloc: Global,
@@ -242,17 +179,14 @@ fn splits_at_once<R: Threads + Sync>(
         → GivesNumber (layer_splits_of settings.now columns.now) (from + i) (slice_index_or v.items i d)) }
     ensures len { IfOk result (λ v. length v.items ≡ count) }
 {
-    let mut results = no_results(alloc, count)?;
-    work_out_splits(
+    worked_out(
         rt,
         alloc,
         threads,
-        settings,
-        columns,
         from,
-        results.as_mut_slice(),
-    );
-    Ok(results)
+        count,
+        &|layer| layer_splits(alloc, settings, columns, layer),
+    )
 }
 
 // Skin and fill of the layers below `from`, and behind them those of so many more layers, worked out at once.
