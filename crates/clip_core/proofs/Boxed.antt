@@ -5,7 +5,6 @@ use Rattle.std.proofs.lemmas.Int.{ints}
 use Rattle.std.proofs.lemmas.Bool.{and_parts}
 use Rattle.std.proofs.lemmas.List.{get_or_append_left}
 use Rattle.std.proofs.Math.Seq.{get_or-append_seam}
-use Rattle.slice_base.specs.declared.points.Pt.{Pt}
 use Rattle.clip_core.specs.declared.bundles.Bundle.{Bundle}
 use Rattle.clip_core.specs.declared.windings.Windings.{Windings}
 use Rattle.clip_core.specs.declared.rays.Ray.{Ray}
@@ -18,7 +17,7 @@ use Rattle.slice_base.specs.Plane.{cross_of}
 use Rattle.slice_base.proofs.Rings.{diff_of, diff-eq, diff-add, diff-sub, diff-mul}
 use Rattle.clip_core.proofs.Signs.{Sign, sign, pp, pn, nn, np, z*, *z}
 use Rattle.clip_core.proofs.Tallies.{plus_assoc}
-use Rattle.clip_core.proofs.Shares.{missed, ray-same, any-default, below-or-not}
+use Rattle.clip_core.proofs.Shares.{ray-same, any-default, below-or-not}
 
 -- the two cross products as one
 turn-sum : (dx dy a c x z : ℤ) → ((dx *ℤ a) -ℤ (dy *ℤ x)) +ℤ ((dx *ℤ c) -ℤ (dy *ℤ z)) ≡ (dx *ℤ (a +ℤ c)) -ℤ (dy *ℤ (x +ℤ z))

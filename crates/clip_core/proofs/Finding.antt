@@ -1,5 +1,5 @@
 -- Bundles found by the indices of their edges, and their net counts.
-use Rattle.std.proofs.Common.{◌≡◌, ◌≢◌, ◌<◌, ◌≤◌, ◌+◌, ℕ, zero, suc, Bool, true, false, not, cond, if◌then◌else◌, List, [], ◌∷◌, ◌++◌, length, length-append, get_or, set, drop, map, Option, inl, inr, ◌⊎◌, arith, refl, sym, ap, ◌∙◌, subst}
+use Rattle.std.proofs.Common.{◌≡◌, ◌≢◌, ◌<◌, ◌≤◌, ◌+◌, ℕ, zero, suc, Bool, true, false, not, cond, if◌then◌else◌, List, [], ◌∷◌, ◌++◌, length, length-append, get_or, set, drop, map, inl, inr, ◌⊎◌, arith, refl, sym, ap, ◌∙◌, subst}
 use Rattle.std.specs.Prelude.{slice_get, Some}
 use Rattle.std.specs.List.{All, list_any}
 use Rattle.std.proofs.lemmas.Bool.{false_from_ne_true}
@@ -32,7 +32,7 @@ at-kept b c bs k h = pick (in_or_not b bs)
       is = get_or_append_left bs (b ∷ []) nowhere k h.within ∙ h.is;
     })
 
-any-mark : (xs : List Marked) (n : ℕ) (x y : Marked) → n < length xs → get_or xs n x ≡ get_or xs n y
+pub any-mark : (xs : List Marked) (n : ℕ) (x y : Marked) → n < length xs → get_or xs n x ≡ get_or xs n y
 any-mark [] n x y h = absurd (omega arith)
 any-mark (z ∷ zs) zero x y h = refl
 any-mark (z ∷ zs) (suc n) x y h = any-mark zs n x y (omega arith)

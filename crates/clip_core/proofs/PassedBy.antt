@@ -1,8 +1,6 @@
 -- Strips of heights: a midpoint in a strip below or above those of an edge's ends isn't reached.
-use Rattle.std.proofs.Common.{◌≡◌, ◌<◌, ◌≤◌, ◌+◌, ◌*◌, ◌/◌, ℕ, zero, suc, ℤ, pos, ◌≤ℤ◌, ◌+ℤ◌, ◌&&◌, Bool, true, false, int_lt, List, length, get_or, arith, refl, sym, ap, ◌∙◌, subst}
+use Rattle.std.proofs.Common.{◌≡◌, ◌<◌, ◌≤◌, ◌*◌, ◌/◌, ℕ, zero, suc, ℤ, pos, ◌≤ℤ◌, ◌+ℤ◌, ◌&&◌, Bool, true, false, int_lt, List, length, get_or, arith, refl}
 use Rattle.std.specs.Prelude.{int_le, nat_le, nat_lt}
-use Rattle.std.specs.List.{All}
-use Rattle.std.specs.List.Sorted.{IsPartitionedBy}
 use Rattle.std.proofs.Math.Nat.{div-mul-le_self, div-zero}
 use Rattle.std.proofs.lemmas.Nat.{le-div}
 use Rattle.std.proofs.lemmas.Bool.Decides.{nat_tests}
@@ -11,9 +9,9 @@ use Rattle.std.proofs.lemmas.Bool.{false_from_ne_true}
 use Rattle.clip_core.specs.declared.bundles.Bundle.{Bundle}
 use Rattle.clip_core.specs.declared.windings.Windings.{Windings}
 use Rattle.clip_core.specs.declared.rays.Ray.{Ray}
-use Rattle.clip_core.specs.Windings.{none, plus, reaches, stands_right, is_level}
+use Rattle.clip_core.specs.Windings.{reaches, stands_right, is_level}
 use Rattle.clip_core.specs.Inner.Rays.{above_least, strip_of, strip_at, twice_middle, is_under, is_up_to, ray_with, AreRising, IsKeyed}
-use Rattle.clip_core.proofs.Shares.{ray-same, any-default}
+use Rattle.clip_core.proofs.Shares.{ray-same}
 
 above-rises : (x y : ℤ) → x ≤ℤ y → above_least x ≤ above_least y
 above-rises x y h = grind (arith, ints)
@@ -90,12 +88,9 @@ level-same f s r is =
     pick true lt same = not-first (int_le (f.low.y +ℤ f.low.y) (twice_middle r.bundle)) (int_lt (twice_middle r.bundle) (f.high.y +ℤ f.high.y)) (stands_right f r.bundle) (level-not f.low.y f.high.y (twice_middle r.bundle) same lt)
     pick false lt same = not-second (int_le (f.low.y +ℤ f.low.y) (twice_middle r.bundle)) (int_lt (twice_middle r.bundle) (f.high.y +ℤ f.high.y)) (stands_right f r.bundle) lt
 
--- the rays under a strip are a front of the list
-
-pub under-parted : (strip : ℕ) (rays : List Ray) → AreRising rays → IsPartitionedBy (is_under strip) rays
-under-parted strip rays rising i j d le below h =
-    let e = div-rises (get_or rays i d).key (get_or rays j d).key 8589934592 (rising i j d le below) in
-    is-under (strip_at (get_or rays i d)) strip (let lt = under-is (strip_at (get_or rays j d)) strip h in omega (arith, e, lt))
+-- what stands under a strip stands under those above it
+pub under-more : (low high : ℕ) (r : Ray) → low ≤ high → is_under low r ≡ true → is_under high r ≡ true
+under-more low high r le h = is-under (strip_at r) high (let lt = under-is (strip_at r) low h in omega (arith, lt, le))
 
 -- from a ray above a strip on, all are
 pub above-rest : (strip : ℕ) (rays : List Ray) (i k : ℕ) (d : Ray) → AreRising rays → i ≤ k → k < length rays → is_up_to strip (get_or rays i d) ≡ false → is_up_to strip (get_or rays k d) ≡ false

@@ -1,21 +1,19 @@
 -- Edges added to rays, one by one.
-use Rattle.std.proofs.Common.{◌≡◌, ◌<◌, ◌≤◌, ◌+◌, ◌/◌, ℕ, zero, suc, ℤ, pos, negsuc, ◌≤ℤ◌, ◌+ℤ◌, ◌&&◌, Bool, true, false, cond, int_lt, List, [], ◌∷◌, length, get_or, drop, inl, inr, ◌⊎◌, arith, refl, sym, ap, ◌∙◌, subst}
+use Rattle.std.proofs.Common.{◌≡◌, ◌<◌, ◌≤◌, ◌+◌, ◌/◌, ℕ, zero, suc, ℤ, pos, negsuc, ◌+ℤ◌, ◌&&◌, Bool, true, false, cond, List, [], ◌∷◌, length, get_or, drop, inl, inr, ◌⊎◌, arith, refl, sym, ap, ◌∙◌, subst}
 use Rattle.std.specs.List.{All, Contains}
 use Rattle.std.specs.List.Sorted.{IsPermutation}
 use Rattle.std.specs.Int.RustNames.{unsigned_abs}
 use Rattle.std.proofs.lemmas.Int.{ints}
-use Rattle.std.proofs.lemmas.List.Elements.{All-nil, All-cons}
 use Rattle.std.proofs.lemmas.List.Sorted.{Contains-permutation}
 use Rattle.std.proofs.Math.IntN.{+ℤ_idr}
-use Rattle.slice_base.specs.declared.points.Pt.{Pt}
 use Rattle.edge_cut.specs.declared.passes.Marked.{Marked}
 use Rattle.clip_core.specs.declared.bundles.Bundle.{Bundle}
 use Rattle.clip_core.specs.declared.windings.Windings.{Windings}
 use Rattle.clip_core.specs.declared.rays.Ray.{Ray}
-use Rattle.clip_core.specs.Bundles.{is_lower, bundle_of, same_bundle}
-use Rattle.clip_core.specs.Windings.{direction_of, share_of, none, plus, tally_of, is_of, is_right_of, reaches, stands_right, net_of, sum_of}
+use Rattle.clip_core.specs.Bundles.{is_lower, bundle_of}
+use Rattle.clip_core.specs.Windings.{direction_of, share_of, none, plus, tally_of, is_right_of, reaches, stands_right, sum_of}
 use Rattle.clip_core.specs.Inner.Small.{AreSmall}
-use Rattle.clip_core.specs.Inner.Rays.{nowhere, twice_middle, strip_of, ray_with, AreRising, IsKeyed, IsSmallRay, IsBare, IsFull, IsRayOf, IsBareOf, AreNumbered, IsTold, HaveRays}
+use Rattle.clip_core.specs.Inner.Rays.{nowhere, twice_middle, strip_of, ray_with, AreRising, IsKeyed, IsSmallRay, IsBare, IsFull, IsBareOf, AreNumbered, IsTold, HaveRays}
 use Rattle.clip_core.proofs.Tallies.{nothing, both, plus-none, tally_of-step, tally_of-end}
 
 -- an edge that misses a ray changes nothing

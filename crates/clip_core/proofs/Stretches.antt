@@ -1,5 +1,5 @@
 -- An edge added to stretches of rays.
-use Rattle.std.proofs.Common.{◌≡◌, ◌<◌, ◌≤◌, ◌+◌, ◌-◌, ◌*◌, ℕ, suc, ◌+ℤ◌, ◌≤ℤ◌, true, false, cond, ◌/◌, List, [], length, get_or, set, inl, inr, ◌⊎◌, arith, refl, sym, ap, ◌∙◌, subst}
+use Rattle.std.proofs.Common.{◌≡◌, ◌<◌, ◌≤◌, ◌+◌, ◌-◌, ◌*◌, ℕ, suc, ◌+ℤ◌, true, false, cond, ◌/◌, List, [], length, get_or, set, inl, inr, ◌⊎◌, arith, refl, sym, ap, ◌∙◌, subst}
 use Rattle.std.specs.List.{All}
 use Rattle.std.specs.Prelude.{nat_le}
 use Rattle.std.proofs.lemmas.List.{length-set, get_or-set_same, get_or-set_other}
@@ -132,12 +132,12 @@ adds-one f s i rays raises v e inside is share = record {
         ap (λ (r : Ray). lifted (raised raises (suc k)) r) q ∙ lifted-with f s (raised raises (suc k)) (get_or rays k d)
 
 -- the rays under the edge
-pub adds-under : (f : Bundle) (s : Windings) (high strip i : ℕ) (rays seen : List Ray) (raises : List Windings) → strip ≡ strip_of high (f.low.y +ℤ f.low.y) → All (IsKeyed high) rays → seen ≡ rays → ((k : ℕ) (d : Ray) → k < i → is_under strip (get_or seen k d) ≡ true) → Adds f s 0 i rays raises rays raises
-adds-under f s high strip i rays seen raises is keyed same under = record {
+pub adds-under : (f : Bundle) (s : Windings) (high strip i : ℕ) (rays : List Ray) (raises : List Windings) → strip ≡ strip_of high (f.low.y +ℤ f.low.y) → All (IsKeyed high) rays → ((k : ℕ) (d : Ray) → k < i → is_under strip (get_or rays k d) ≡ true) → Adds f s 0 i rays raises rays raises
+adds-under f s high strip i rays raises is keyed under = record {
   count = refl;
   raises_count = refl;
   before = λ k d lt below. absurd (omega arith);
-  within = λ k d le lt below. under-same f s (ray_at rays raises k d) high strip is (keyed k d below) (subst (λ (rs : List Ray). is_under strip (get_or rs k d) ≡ true) same (under k d lt));
+  within = λ k d le lt below. under-same f s (ray_at rays raises k d) high strip is (keyed k d below) (under k d lt);
   behind = λ k d le below. refl;
   small = λ n a. all-wider (n + 0) (n + i) rays raises (omega arith) a;
 }

@@ -5,3 +5,4 @@ pub mod Rays
 pub mod Indexed
 pub mod Hulls
 pub mod Raises
+pub mod Starts

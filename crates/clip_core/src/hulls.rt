@@ -158,7 +158,7 @@ pub(crate) fn takes(f: Bundle, h: Hull) -> bool
 fn hull_from(rays: &[Ray], from: usize, width: usize) -> Hull
     requires within { from < length rays.now }
     requires few { length rays.now ≤ 100000 }
-    requires narrow { width ≤ 256 }
+    requires narrow { width ≤ 128 }
     ensures { IsHull result rays.now from width }
 {
     let mut hull = hull_of(rays[from].bundle);
@@ -179,10 +179,10 @@ fn push_hull(hulls: &mut Vec<Hull>, h: Hull) -> Result<(), NoMemory>
 pub(crate) fn hulls_of(alloc: Global, rays: &[Ray], width: usize) -> Result<Vec<Hull>, NoMemory>
     requires few { length rays.now ≤ 100000 }
     requires some { 0 < width }
-    requires narrow { width ≤ 256 }
+    requires narrow { width ≤ 128 }
     ensures { IfOk result (λ hulls. AreHulls width hulls.items rays.now) }
 {
-    let mut hulls = Vec::new(alloc);
+    let mut hulls = Vec::with_capacity(alloc, rays.len() / width + 1)?;
     let mut from = 0;
     'file: while from < rays.len() {
         push_hull(&mut hulls, hull_from(rays, from, width))?;

@@ -13,6 +13,7 @@ mod net_counts;
 mod outlines;
 mod raises;
 mod rays;
+mod starts;
 mod strips;
 mod tidying;
 mod windings;
@@ -23,8 +24,8 @@ pub use clipping::{Rule, clean, meet, subtract, unite};
 pub use edge_cut::CutFault;
 pub use keeping::Operation;
 pub use laws::{
-    bundles_are_in_order, cancelled_goes, is_kept_exchanged, net_is_up_less_down,
-    nothing_without_itself, sides_differ_by_net,
+    bundles_are_in_order, cancelled_goes, is_kept_exchanged, lone_operand_keeps_none,
+    net_is_up_less_down, nothing_without_itself, sides_differ_by_net,
 };
 pub use windings::Windings;
 

@@ -10,12 +10,14 @@ ghost use Rattle.clip_core.specs.Inner.Small.{AreSmall};
 ghost use Rattle.clip_core.specs.Inner.Rays.{strip_of, strip_at, twice_middle, is_under, is_up_to, meets_ray, ray_with};
 ghost use Rattle.clip_core.specs.Inner.Rays.{AreRising, IsKeyed, IsSmallRay, IsBareOf, IsBare, IsRayOf, AreNumbered, IsTold, HaveRays};
 ghost use Rattle.clip_core.specs.Inner.Hulls.{IsHull, AreHulls};
+ghost use Rattle.clip_core.specs.Inner.Starts.{AreFirsts};
 ghost use Rattle.clip_core.specs.Inner.Raises.{AllSmall, Adds, AreWith, AreFull};
 ghost use Rattle.clip_core.specs.declared.windings.Windings.{Windings};
 
 use crate::bundles::{Bundle, bundle_of};
 use crate::hulls::{Hull, hull_of, hulls_of, misses, takes};
 use crate::raises::{lift, raise};
+use crate::starts::{Starts, first_up, starts_of};
 use crate::strips::{key_of, strip_height, strip_of};
 use crate::windings::{Windings, add_if, is_level, nones, reaches, share, stands_right};
 use edge_cut::Marked;
@@ -57,13 +59,14 @@ fn member_of(m: Marked, high: u64) -> Member
     }
 }
 
-fn strip_at(r: Ray) -> u64
-    ensures { result ≡ strip_at r }
+pub(crate) fn strip_at(r: Ray) -> u64
+    ensures exact { result ≡ strip_at r }
+    ensures small { result < 2147483648 }
 {
     r.key / 8_589_934_592
 }
 
-fn is_under(strip: u64, r: Ray) -> bool
+pub(crate) fn is_under(strip: u64, r: Ray) -> bool
     ensures { result ≡ is_under strip r }
 {
     strip_at(r) < strip
@@ -100,14 +103,6 @@ fn ray_with(m: Member, r: Ray) -> Ray
     }
 }
 
-fn first_up(rays: &[Ray], strip: u64) -> usize
-    requires { AreRising rays.now }
-    ensures within { result ≤ length rays.now }
-    ensures before { (k : ℕ) (d : Ray) → k < result → is_under strip (slice_index_or rays.now k d) ≡ true }
-{
-    rays.partition_point(|r| is_under(strip, *r))
-}
-
 // Passes over the rays of a box from `i` on: where they are all to the left of the edge, by raising them, and
 // where they are all to its right. Else it stays at `i`.
 fn add_hull(
@@ -138,10 +133,10 @@ fn add_hull(
     i
 }
 
-// How many neighbours have a box, and how many a great one: of 100,000 rays a tall edge sees some 400 boxes.
-const NARROW: usize = 16;
+// How many neighbours have a box, and how many a great one: of 100,000 rays a tall edge sees some 800 boxes.
+const NARROW: usize = 8;
 
-const WIDE: usize = 256;
+const WIDE: usize = 128;
 
 fn add_narrow(
     rays: &[Ray],
@@ -153,7 +148,7 @@ fn add_narrow(
     requires inside { i < length rays.now }
     requires few { length rays.now ≤ 100000 }
     requires enough { length raises.old.items ≡ length rays.now + 1 }
-    requires hulls { AreHulls 16 hulls.now rays.now }
+    requires hulls { AreHulls 8 hulls.now rays.now }
     requires share_small { AreSmall 1 m.share }
     requires small { All (AreSmall (2 ^ 61)) raises.old.items }
     ensures later { i ≤ result }
@@ -171,7 +166,7 @@ fn add_wide(rays: &[Ray], raises: &mut Vec<Windings>, hulls: &[Hull], i: usize, 
     requires inside { i < length rays.now }
     requires few { length rays.now ≤ 100000 }
     requires enough { length raises.old.items ≡ length rays.now + 1 }
-    requires hulls { AreHulls 256 hulls.now rays.now }
+    requires hulls { AreHulls 128 hulls.now rays.now }
     requires share_small { AreSmall 1 m.share }
     requires small { All (AreSmall (2 ^ 61)) raises.old.items }
     ensures later { i ≤ result }
@@ -229,8 +224,8 @@ fn add_from(
     requires inside { i < length rays.old.items }
     requires few { length rays.old.items ≤ 100000 }
     requires enough { length raises.old.items ≡ length rays.old.items + 1 }
-    requires wide { AreHulls 256 wide.now rays.old.items }
-    requires narrow { AreHulls 16 narrow.now rays.old.items }
+    requires wide { AreHulls 128 wide.now rays.old.items }
+    requires narrow { AreHulls 8 narrow.now rays.old.items }
     requires share_small { AreSmall 1 m.share }
     requires small { AllSmall (2 ^ 60 + i) rays.old.items raises.old.items }
     ensures later { i < result }
@@ -254,13 +249,15 @@ fn add_edge(
     raises: &mut Vec<Windings>,
     wide: &[Hull],
     narrow: &[Hull],
+    starts: &Starts,
     high: u64,
     m: Marked,
 )
     requires few { length rays.old.items ≤ 100000 }
     requires enough { length raises.old.items ≡ length rays.old.items + 1 }
-    requires wide { AreHulls 256 wide.now rays.old.items }
-    requires narrow { AreHulls 16 narrow.now rays.old.items }
+    requires wide { AreHulls 128 wide.now rays.old.items }
+    requires narrow { AreHulls 8 narrow.now rays.old.items }
+    requires starts { AreFirsts starts.now.base starts.now.firsts.items rays.old.items }
     requires tall { 4 ≤ high }
     requires rising { AreRising rays.old.items }
     requires keyed { All (IsKeyed high) rays.old.items }
@@ -276,7 +273,7 @@ fn add_edge(
     if is_level(member.ends) {
         return;
     }
-    let mut i = first_up(rays.as_slice(), member.first);
+    let mut i = first_up(starts, member.first);
     'walk: while i < rays.len() && is_up_to(member.last, rays[i]) {
         i = add_from(rays, raises, wide, narrow, i, member);
     }
@@ -287,6 +284,7 @@ fn add_edges(
     raises: &mut Vec<Windings>,
     wide: &[Hull],
     narrow: &[Hull],
+    starts: &Starts,
     high: u64,
     all: &[Marked],
 )
@@ -294,8 +292,9 @@ fn add_edges(
     requires rays_few { length rays.old.items ≤ 100000 }
     requires enough { length raises.old.items ≡ length rays.old.items + 1 }
     requires flat { All (λ w. w ≡ none) raises.old.items }
-    requires wide { AreHulls 256 wide.now rays.old.items }
-    requires narrow { AreHulls 16 narrow.now rays.old.items }
+    requires wide { AreHulls 128 wide.now rays.old.items }
+    requires narrow { AreHulls 8 narrow.now rays.old.items }
+    requires starts { AreFirsts starts.now.base starts.now.firsts.items rays.old.items }
     requires tall { 4 ≤ high }
     requires rising { AreRising rays.old.items }
     requires keyed { All (IsKeyed high) rays.old.items }
@@ -306,7 +305,7 @@ fn add_edges(
     ensures small { AllSmall (2 ^ 40) rays.new.items raises.new.items }
 {
     for m in all {
-        add_edge(rays, raises, wide, narrow, high, *m);
+        add_edge(rays, raises, wide, narrow, starts, high, *m);
     }
 }
 
@@ -371,12 +370,14 @@ pub(crate) fn rays_of(
     let mut rays = sorted_rays(alloc, bundles, high)?;
     let wide = hulls_of(alloc, rays.as_slice(), WIDE)?;
     let narrow = hulls_of(alloc, rays.as_slice(), NARROW)?;
+    let starts = starts_of(alloc, rays.as_slice())?;
     let mut raises = nones(alloc, rays.len() + 1)?;
     add_edges(
         &mut rays,
         &mut raises,
         wide.as_slice(),
         narrow.as_slice(),
+        &starts,
         high,
         all,
     );

@@ -31,8 +31,22 @@ pub(crate) fn key_of(b: Bundle, high: u64) -> u64
     strip_of(b.low.y, b.high.y, high) * 8_589_934_592 + above_least(b.low.x, b.high.x)
 }
 
-/// How high strips are: a part of what edges are on average, so that most of them reach few strips. Any height is
-/// right.
+// The height of all of them together.
+fn extent(bundles: &[Bundle]) -> u64 {
+    if bundles.is_empty() {
+        return 0;
+    }
+    let mut low = bundles[0].low.y;
+    let mut high = bundles[0].high.y;
+    for b in bundles {
+        low = low.min(b.low.y);
+        high = high.max(b.high.y);
+    }
+    u64::from(high.abs_diff(low))
+}
+
+/// How high strips are: a part of what edges are on average, so that most of them reach few strips, but so high that
+/// there are at most some eight to a bundle. Any height is right.
 pub(crate) fn strip_height(bundles: &[Bundle]) -> u64
     ensures { 4 ≤ result }
 {
@@ -40,13 +54,18 @@ pub(crate) fn strip_height(bundles: &[Bundle]) -> u64
     for b in bundles {
         heights = heights.saturating_add(u64::from(b.high.y.abs_diff(b.low.y)));
     }
-    average(heights, bundles.len() as u64).max(4)
+    let count = bundles.len() as u64;
+    part(heights, count, 16)
+        .max(part(extent(bundles), count, 4))
+        .max(4)
 }
 
-// The sixteenth part of an average: that of a doubled height by thirty-two.
-fn average(heights: u64, count: u64) -> u64 {
+// This part of an average: of a doubled height it is the half of that.
+fn part(heights: u64, count: u64, of: u64) -> u64
+    requires { 0 < of }
+{
     if count == 0 {
         return 0;
     }
-    heights / count / 16
+    heights / count / of
 }

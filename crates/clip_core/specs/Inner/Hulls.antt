@@ -1,5 +1,5 @@
 -- Boxes round midpoints, all numbers doubled.
-use Rattle.std.specs.Prelude.{ℕ, ℤ, ◌+◌, ◌*◌, ◌+ℤ◌, ◌≤◌, ◌<◌, ◌≤ℤ◌, Bool, ◌&&◌, int_lt, int_le, List, length, slice_index_or}
+use Rattle.std.specs.Prelude.{ℕ, ◌+◌, ◌*◌, ◌+ℤ◌, ◌≤◌, ◌<◌, ◌≤ℤ◌, Bool, ◌&&◌, int_lt, int_le, List, length, slice_index_or}
 use Rattle.clip_core.specs.declared.bundles.Bundle.{Bundle}
 use Rattle.clip_core.specs.declared.hulls.Hull.{Hull}
 use Rattle.clip_core.specs.declared.rays.Ray.{Ray}

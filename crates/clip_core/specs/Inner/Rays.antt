@@ -1,12 +1,11 @@
 -- Bundles with their winding sums, as far as edges were added to them.
-use Rattle.std.specs.Prelude.{ℕ, suc, ℤ, pos, ◌≡◌, ◌+◌, ◌*◌, ◌/◌, ◌+ℤ◌, ◌≤◌, ◌<◌, Bool, cond, ◌&&◌, int_le, nat_lt, nat_le, List, length, slice_index_or, unsigned_abs}
-use Rattle.std.specs.List.{All}
+use Rattle.std.specs.Prelude.{ℕ, ℤ, pos, ◌≡◌, ◌/◌, ◌+ℤ◌, ◌≤◌, ◌<◌, Bool, cond, ◌&&◌, int_le, nat_lt, nat_le, List, length, slice_index_or, unsigned_abs}
 use Rattle.slice_base.specs.Plane.{cross_of}
 use Rattle.edge_cut.specs.declared.passes.Marked.{Marked}
 use Rattle.clip_core.specs.declared.bundles.Bundle.{Bundle}
 use Rattle.clip_core.specs.declared.windings.Windings.{Windings}
 use Rattle.clip_core.specs.declared.rays.Ray.{Ray}
-use Rattle.clip_core.specs.Windings.{none, plus, net_of, sum_of, reaches, stands_right}
+use Rattle.clip_core.specs.Windings.{none, plus, sum_of, reaches, stands_right}
 use Rattle.clip_core.specs.Inner.Small.{AreSmall}
 
 -- what an index past the end would read

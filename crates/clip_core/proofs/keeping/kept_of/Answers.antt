@@ -6,6 +6,9 @@ use Rattle.clip_core.proofs.Sizes.{bundles_of-le}
 use Rattle.clip_core.proofs.Found.{bundles_of-distinct}
 use Rattle.clip_core.proofs.keeping.kept_of.Goals as goal
 
+pub returns-then-keeps_none : goal.returns-then-keeps_none
+returns-then-keeps_none c = c.new.ensures.items ∙ sym (c.keeps_none.ensures c.if-keeps_none.true)
+
 pub kept_edges-requires-clause-bundles_few : goal.kept_edges-requires-clause-bundles_few
 kept_edges-requires-clause-bundles_few c =
     let few = bundles_of-le [] c.args.all.now in

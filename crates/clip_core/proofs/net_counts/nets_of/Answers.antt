@@ -3,7 +3,7 @@ use Rattle.clip_core.specs.Windings.{none, plus}
 use Rattle.clip_core.proofs.Lifts.{any-raise}
 use Rattle.clip_core.proofs.Tallies.{nothing}
 use Rattle.clip_core.proofs.Shares.{share-small}
-use Rattle.clip_core.proofs.Finding.{nets-begin, nets-step, nets-end}
+use Rattle.clip_core.proofs.Finding.{nets-step}
 use Rattle.clip_core.proofs.net_counts.nets_of.Goals as goal
 
 pub index-requires : goal.index-requires

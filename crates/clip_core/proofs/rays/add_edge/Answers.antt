@@ -1,4 +1,4 @@
-use Rattle.std.proofs.Common.{◌≡◌, ◌<◌, ◌≤◌, ◌+◌, ◌^◌, List, length, get_or, arith, ◌∙◌, sym, ap, false, refl, subst}
+use Rattle.std.proofs.Common.{◌≡◌, ◌<◌, ◌+◌, ◌^◌, List, length, get_or, arith, ◌∙◌, sym, ap, false, refl, subst}
 use Rattle.clip_core.specs.declared.bundles.Bundle.{Bundle}
 use Rattle.clip_core.specs.declared.windings.Windings.{Windings}
 use Rattle.clip_core.specs.declared.rays.Ray.{Ray}
@@ -26,11 +26,12 @@ returns-then-is_level c =
 
 pub walk-init : goal.walk-init
 walk-init c =
-    let same = ap length c.as_slice.ensures.value in
+    let rays = c.args.rays.now.items in
     let m = c.member_of-member.result in
+    let first = c.first_up-i.ensures rays c.requires.starts in
     record {
-      within = omega (arith, c.first_up-i.ensures.within, same);
-      adds = adds-under m.ends m.share c.args.high m.first c.first_up-i.result c.args.rays.now.items c.as_slice.result.now c.args.raises.now.items c.member_of-member.ensures.first c.requires.keyed c.as_slice.ensures.value c.first_up-i.ensures.before;
+      within = first.within;
+      adds = adds-under m.ends m.share c.args.high m.first c.first_up-i.result rays c.args.raises.now.items c.member_of-member.ensures.first c.requires.keyed first.before;
     }
 
 pub walk-preserved : goal.walk-preserved
@@ -46,13 +47,13 @@ pub add_from-i-requires-clause-wide : goal.add_from-i-requires-clause-wide
 add_from-i-requires-clause-wide c =
     let h = c.walk.invariant in
     let m = c.member_of-member.result in
-    hulls-stay 256 c.args.wide.now c.args.rays.now.items c.walk.rays.items h.adds.count (adds-bundle m.ends m.share 0 c.walk.i c.args.rays.now.items c.walk.rays.items c.args.raises.now.items c.walk.raises.items h.adds) c.requires.wide
+    hulls-stay 128 c.args.wide.now c.args.rays.now.items c.walk.rays.items h.adds.count (adds-bundle m.ends m.share 0 c.walk.i c.args.rays.now.items c.walk.rays.items c.args.raises.now.items c.walk.raises.items h.adds) c.requires.wide
 
 pub add_from-i-requires-clause-narrow : goal.add_from-i-requires-clause-narrow
 add_from-i-requires-clause-narrow c =
     let h = c.walk.invariant in
     let m = c.member_of-member.result in
-    hulls-stay 16 c.args.narrow.now c.args.rays.now.items c.walk.rays.items h.adds.count (adds-bundle m.ends m.share 0 c.walk.i c.args.rays.now.items c.walk.rays.items c.args.raises.now.items c.walk.raises.items h.adds) c.requires.narrow
+    hulls-stay 8 c.args.narrow.now c.args.rays.now.items c.walk.rays.items h.adds.count (adds-bundle m.ends m.share 0 c.walk.i c.args.rays.now.items c.walk.rays.items c.args.raises.now.items c.walk.raises.items h.adds) c.requires.narrow
 
 pub add_from-i-requires-clause-small : goal.add_from-i-requires-clause-small
 add_from-i-requires-clause-small c = c.walk.invariant.adds.small (2 ^ 60) c.requires.small

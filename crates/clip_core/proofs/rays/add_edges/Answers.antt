@@ -1,7 +1,8 @@
-use Rattle.std.proofs.Common.{◌*◌, ◌+◌, ◌^◌, length, get_or, refl, arith, ◌∙◌}
+use Rattle.std.proofs.Common.{◌*◌, ◌+◌, ◌^◌, get_or, refl, arith, ◌∙◌}
 use Rattle.clip_core.specs.Inner.Raises.{ray_at}
 use Rattle.clip_core.proofs.Shares.{so_far-step, still-rising, still-keyed, share-small}
 use Rattle.clip_core.proofs.Tallies.{nothing}
+use Rattle.clip_core.proofs.Begun.{firsts-stay}
 use Rattle.clip_core.proofs.Stretches.{hulls-stay, all-wider, edges-begin, edges-small}
 use Rattle.clip_core.proofs.rays.add_edges.Goals as goal
 
@@ -32,12 +33,17 @@ loop-m-preserved c =
 pub add_edge-requires-clause-wide : goal.add_edge-requires-clause-wide
 add_edge-requires-clause-wide c =
     let h = c.loop-m.invariant in
-    hulls-stay 256 c.args.wide.now c.args.rays.now.items c.loop-m.rays.items h.count (λ k d below. (h.so_far k d (omega (arith, h.count, below))).bundle) c.requires.wide
+    hulls-stay 128 c.args.wide.now c.args.rays.now.items c.loop-m.rays.items h.count (λ k d below. (h.so_far k d (omega (arith, h.count, below))).bundle) c.requires.wide
 
 pub add_edge-requires-clause-narrow : goal.add_edge-requires-clause-narrow
 add_edge-requires-clause-narrow c =
     let h = c.loop-m.invariant in
-    hulls-stay 16 c.args.narrow.now c.args.rays.now.items c.loop-m.rays.items h.count (λ k d below. (h.so_far k d (omega (arith, h.count, below))).bundle) c.requires.narrow
+    hulls-stay 8 c.args.narrow.now c.args.rays.now.items c.loop-m.rays.items h.count (λ k d below. (h.so_far k d (omega (arith, h.count, below))).bundle) c.requires.narrow
+
+pub add_edge-requires-clause-starts : goal.add_edge-requires-clause-starts
+add_edge-requires-clause-starts c =
+    let h = c.loop-m.invariant in
+    firsts-stay c.args.starts.now.base c.args.starts.now.firsts.items c.args.rays.now.items c.loop-m.rays.items h.count (λ k d below. (h.so_far k d below).key) c.requires.starts
 
 pub add_edge-requires-clause-rising : goal.add_edge-requires-clause-rising
 add_edge-requires-clause-rising c =

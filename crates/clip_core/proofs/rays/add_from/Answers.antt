@@ -1,4 +1,4 @@
-use Rattle.std.proofs.Common.{◌≡◌, ◌+◌, ◌^◌, length, arith, ap}
+use Rattle.std.proofs.Common.{◌≡◌, ◌^◌, length, arith, ap}
 use Rattle.clip_core.proofs.Stretches.{adds-as, adds-after, next-small}
 use Rattle.clip_core.proofs.rays.add_from.Goals as goal
 

@@ -1,4 +1,4 @@
-use Rattle.std.proofs.Common.{rules, arith, ◌∙◌, sym}
+use Rattle.std.proofs.Common.{rules, arith}
 use Rattle.std.proofs.lemmas.List.Sorted.{IsNonDecreasingBy-from_sort_by_key, All-permutation, length_permutation}
 use Rattle.clip_core.specs.Inner.Rays.{IsBareOf}
 use Rattle.clip_core.proofs.Shares.{sorted-has}
