@@ -20,7 +20,7 @@ use Rattle.slice_base.proofs.Rounding.{rounded-le, le-rounded}
 use Rattle.edge_cut.proofs.Ordered.{In, in-contained}
 use Rattle.slice_base.proofs.Rings.{diff, diff_of, diff-eq, diff-sub, diff-mul}
 use Rattle.edge_cut.proofs.Apart.{both-true, by-bool, none-if}
-use Rattle.edge_cut.proofs.BothEdges.{turn-back, cross-sum, crossing-taken, shared-lies}
+use Rattle.edge_cut.proofs.BothEdges.{turn-back, zero-back, cross-sum, crossing-taken, crossing-exchanged, shared-lies}
 
 -- both ends of f on one side of e
 
@@ -207,11 +207,50 @@ turn-not w h = pick (int_eq w (pos 0)) refl
     pick true is = absurd (h is)
     pick false is = is
 
-pub shared-end : (e : Edge) (m : Marked) (s : Sides) (r : Bool) → AreSides e m.edge s → s.from ≢ s.to → r ≡ share_end e m.edge → r ≡ true → MeetsAtEnds e m
-shared-end e m s r are other is h p meets =
+at-ends-by : (e : Edge) (m : Marked) → int_eq (turn_of e m.edge) (pos 0) ≡ false → IsWholePart e m.edge → MeetsAtEnds e m
+at-ends-by e m turn whole p meets =
     let f = m.edge in
-    let turn = turn-not (turn_of e f) (some-turn s.from s.to (turn_of e f) (sides-sum e f s are) other) in
     let crossing = crossing-taken (int_eq (turn_of e f) (pos 0)) (shared_of e f) (crossing_of e f) turn in
     in-one e p (point_at e (unsigned_abs (part_on e f)) (unsigned_abs (turn_of e f))) (is_part (part_on e f) (turn_of e f) && is_part (part_across e f) (turn_of e f))
-    (point-end e f turn (whole-part e f (sym is ∙ h)))
+    (point-end e f turn whole)
     (subst (λ (ps : List Pt). In p ps) crossing (in-contained p (meeting_of e f) meets))
+
+turn-by-sides : (e f : Edge) (s : Sides) → AreSides e f s → s.from ≢ s.to → int_eq (turn_of e f) (pos 0) ≡ false
+turn-by-sides e f s are other = turn-not (turn_of e f) (some-turn s.from s.to (turn_of e f) (sides-sum e f s are) other)
+
+pub shared-end : (e : Edge) (m : Marked) (s : Sides) (r : Bool) → AreSides e m.edge s → s.from ≢ s.to → r ≡ share_end e m.edge → r ≡ true → MeetsAtEnds e m
+shared-end e m s r are other is h = at-ends-by e m (turn-by-sides e m.edge s are other) (whole-part e m.edge (sym is ∙ h))
+
+-- from the other edge
+
+turn-other : (e f : Edge) → int_eq (turn_of e f) (pos 0) ≡ false → int_eq (turn_of f e) (pos 0) ≡ false
+turn-other e f h = subst (λ (z : ℤ). int_eq z (pos 0) ≡ false) (sym (turn-back e.from e.to f.from f.to)) (zero-back (turn_of e f) h)
+
+whole-part-back : (e f : Edge) → share_end e f ≡ true → IsWholePart f e
+whole-part-back e f h = pick (either-true (same_point f.from e.from || same_point f.from e.to) (same_point f.to e.from || same_point f.to e.to) h)
+  where
+    by-first : IsEnd e f.from → IsWholePart f e
+    by-first (inl is) = from-end f e (inl (sym is))
+    by-first (inr is) = to-end f e (inl (sym is))
+
+    by-last : IsEnd e f.to → IsWholePart f e
+    by-last (inl is) = from-end f e (inr (sym is))
+    by-last (inr is) = to-end f e (inr (sym is))
+
+    pick : ((same_point f.from e.from || same_point f.from e.to) ≡ true) ⊎ ((same_point f.to e.from || same_point f.to e.to) ≡ true) → IsWholePart f e
+    pick (inl g) = by-first (is-end e f.from g)
+    pick (inr g) = by-last (is-end e f.to g)
+
+pub shared-end-back : (e f : Marked) (s : Sides) (r : Bool) → AreSides e.edge f.edge s → s.from ≢ s.to → r ≡ share_end e.edge f.edge → r ≡ true → MeetsAtEnds f.edge e
+shared-end-back e f s r are other is h =
+    at-ends-by f.edge e (turn-other e.edge f.edge (turn-by-sides e.edge f.edge s are other)) (whole-part-back e.edge f.edge (sym is ∙ h))
+
+none-back : (e f : Marked) (s : Sides) → AreSides e.edge f.edge s → s.from ≢ s.to → meeting_of f.edge e.edge ≡ [] → MeetsAtEnds e.edge f
+none-back e f s are other none = none-in e.edge f (crossing-exchanged e.edge f.edge (turn-by-sides e.edge f.edge s are other) ∙ none)
+
+pub one-side-back : (e f : Marked) (s : Sides) (r : Bool) → AreSides e.edge f.edge s → s.from ≢ s.to → r ≡ ((int_lt (pos 0) s.from && int_lt (pos 0) s.to) || (int_lt s.from (pos 0) && int_lt s.to (pos 0))) → r ≡ true → MeetsAtEnds f.edge e
+one-side-back e f s r are other is h =
+    none-in f.edge e (sym (crossing-exchanged e.edge f.edge (turn-by-sides e.edge f.edge s are other)) ∙ one-side-none e.edge f.edge s.from s.to are.from_is are.to_is (sym is ∙ h))
+
+pub other-side : (e f : Marked) (s t : Sides) (r : Bool) → AreSides e.edge f.edge s → s.from ≢ s.to → AreSides f.edge e.edge t → r ≡ ((int_lt (pos 0) t.from && int_lt (pos 0) t.to) || (int_lt t.from (pos 0) && int_lt t.to (pos 0))) → r ≡ true → MeetsAtEnds e.edge f
+other-side e f s t r are other others is h = none-back e f s are other (one-side-none f.edge e.edge t.from t.to others.from_is others.to_is (sym is ∙ h))

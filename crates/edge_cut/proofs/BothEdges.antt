@@ -170,7 +170,7 @@ one-or-none false false p q e f = refl
 one-or-none true false p q e f = absurd (cc)
 one-or-none false true p q e f = absurd (cc)
 
-zero-back : (w : ℤ) → int_eq w (pos 0) ≡ false → int_eq (neg_ℤ w) (pos 0) ≡ false
+pub zero-back : (w : ℤ) → int_eq w (pos 0) ≡ false → int_eq (neg_ℤ w) (pos 0) ≡ false
 zero-back w h = grind (arith, ints)
 
 same-rounded : (e f : Edge) (p q w : ℕ) → IsOnePoint e f p q w → point_at e p w ≡ point_at f q w

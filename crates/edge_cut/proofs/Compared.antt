@@ -17,7 +17,7 @@ use Rattle.edge_cut.specs.declared.pairs.Pair.{Pair}
 use Rattle.edge_cut.specs.Meeting.{meeting_of}
 use Rattle.edge_cut.specs.Ordered.{MeetsAtEnds}
 use Rattle.edge_cut.specs.Inner.Indices.{nothing}
-use Rattle.edge_cut.specs.Inner.Pairs.{extent_of, above_least, key_of, filed_at, limit_of, AreRising, IsExtentOf, IsFileOf, KeepsFiles, IsFiled, AreFiled, IsPaired, AreCompared, Keeps, ComparedUpTo, ComparedBelow, ArePaired}
+use Rattle.edge_cut.specs.Inner.Pairs.{extent_of, above_least, key_of, filed_at, limit_of, AreRising, IsExtentOf, IsFileOf, KeepsFiles, IsFiled, AreFiled, IsPaired, AreCompared, Keeps, IsInside, ComparedUpTo, ComparedBelow, ArePaired}
 use Rattle.edge_cut.proofs.Ordered.{In, in-contained, contains-in}
 use Rattle.edge_cut.proofs.Beside.{meetings-apart, meetings-beside}
 use Rattle.edge_cut.proofs.Columns.{higher, common}
@@ -194,12 +194,12 @@ one-column x old new first column kept so_far here c after lt = pick (below-or-l
     pick (inl h) = kept (filed_at c x) (so_far c after h)
     pick (inr h) = subst (λ (k : ℕ). Contains new (filed_at k x)) (sym h) here
 
-in-front : (f : Filed) (xs ys : List Filed) → In f xs → In f (xs ++ ys)
+in-front : {X : Type 0} (f : X) (xs ys : List X) → In f xs → In f (xs ++ ys)
 in-front f [] ys h = elim h [ ]
 in-front f (x ∷ xs) ys (inl is) = inl is
 in-front f (x ∷ xs) ys (inr h) = inr (in-front f xs ys h)
 
-in-last : (f : Filed) (xs : List Filed) → In f (xs ++ f ∷ [])
+in-last : {X : Type 0} (f : X) (xs : List X) → In f (xs ++ f ∷ [])
 in-last f [] = inl refl
 in-last f (x ∷ xs) = inr (in-last f xs)
 
@@ -213,6 +213,38 @@ pub pushed-are : (lies : Bool) (all : List Marked) (old new : List Filed) (f : F
 pushed-are lies all old new f is h are =
     subst (λ (fs : List Filed). All (IsFileOf lies all) fs) (sym is)
     (All-append (IsFileOf lies all) old (f ∷ []) are (All-cons (IsFileOf lies all) f [] h (All-nil (IsFileOf lies all))))
+
+-- a pair that is listed both ways round
+
+abbrev with-both : List Pair → Pair → Pair → List Pair
+with-both ps p q = (ps ++ p ∷ []) ++ q ∷ []
+
+first-in : (ps : List Pair) (p q : Pair) → Contains (with-both ps p q) p
+first-in ps p q = contains-in p (with-both ps p q) (in-front p (ps ++ p ∷ []) (q ∷ []) (in-last p ps))
+
+last-in : (ps : List Pair) (p q : Pair) → Contains (with-both ps p q) q
+last-in ps p q = contains-in q (with-both ps p q) (in-last q (ps ++ p ∷ []))
+
+pub pair-kept : (old new : List Pair) (p q : Pair) → new ≡ (old ++ p ∷ []) ++ q ∷ [] → Keeps old new
+pair-kept old new p q is g h =
+    subst (λ (ps : List Pair). Contains ps g) (sym is)
+    (contains-in g (with-both old p q) (in-front g (old ++ p ∷ []) (q ∷ []) (in-front g old (p ∷ []) (in-contained g old h))))
+
+pub pair-compared : (all : List Marked) (old new : List Pair) (i j : ℕ) → new ≡ (old ++ record { first = i; second = j } ∷ []) ++ record { first = j; second = i } ∷ [] → AreCompared all new i j
+pair-compared all old new i j is =
+    let p : Pair = record { first = i; second = j } in
+    let q : Pair = record { first = j; second = i } in
+    record {
+      forth = inl (subst (λ (ps : List Pair). Contains ps p) (sym is) (first-in old p q));
+      back = inl (subst (λ (ps : List Pair). Contains ps q) (sym is) (last-in old p q));
+    }
+
+pub pair-inside : (n : ℕ) (old new : List Pair) (p q : Pair) → new ≡ (old ++ p ∷ []) ++ q ∷ [] → IsInside n p → IsInside n q → All (IsInside n) old → All (IsInside n) new
+pair-inside n old new p q is pin qin are =
+    subst (λ (ps : List Pair). All (IsInside n) ps) (sym is)
+    (All-append (IsInside n) (old ++ p ∷ []) (q ∷ [])
+    (All-append (IsInside n) old (p ∷ []) are (All-cons (IsInside n) p [] pin (All-nil (IsInside n))))
+    (All-cons (IsInside n) q [] qin (All-nil (IsInside n))))
 
 pub moved-filed : (lies : Bool) (width : ℕ) (all : List Marked) (old new : List Filed) → IsPermutation old new → AreFiled lies width all old → AreFiled lies width all new
 moved-filed lies width all old new moved h = record {

@@ -243,6 +243,36 @@ fn meets_at_ends(e: Edge, f: Marked) -> bool
     share_end(e, f.edge)
 }
 
+// Each of two parallel edges by itself.
+fn each_at_ends(e: Marked, f: Marked) -> bool
+    ensures forth { result ≡ true → MeetsAtEnds e.edge f }
+    ensures back { result ≡ true → MeetsAtEnds f.edge e }
+{
+    if !meets_at_ends(e.edge, f) {
+        return false;
+    }
+    meets_at_ends(f.edge, e)
+}
+
+// Both at once, since two edges that aren't parallel meet at one point: where it's an end of one, or there is none.
+fn both_at_ends(e: Marked, f: Marked) -> bool
+    ensures forth { result ≡ true → MeetsAtEnds e.edge f }
+    ensures back { result ≡ true → MeetsAtEnds f.edge e }
+{
+    let sides = sides_of(e.edge, f.edge);
+    if are_level(sides) {
+        return each_at_ends(e, f);
+    }
+    if are_on_one_side(sides) {
+        return true;
+    }
+    if share_end(e.edge, f.edge) {
+        return true;
+    }
+    let others = sides_of(f.edge, e.edge);
+    are_on_one_side(others)
+}
+
 /// The most pairs that are listed: 64 MB. Edges with more of them are too tangled.
 const MOST_PAIRS: usize = 8_000_000;
 
@@ -268,31 +298,38 @@ fn push(pairs: &mut Vec<Pair>, pair: Pair) -> Result<(), NoMemory>
     Ok(())
 }
 
-fn push_pair(pairs: &mut Vec<Pair>, all: &[Marked], i: u32, j: u32) -> Result<(), PairFault>
-    requires i_in { i < length all.now }
-    requires j_in { j < length all.now }
-    requires inside { All (IsInside (length all.now)) pairs.old.items }
-    ensures kept { OnOk result (Keeps pairs.old.items pairs.new.items) }
-    ensures paired { OnOk result (IsPaired all.now pairs.new.items i j) }
-    ensures inside { OnOk result (All (IsInside (length all.now)) pairs.new.items) }
+fn push_pair(pairs: &mut Vec<Pair>, pair: Pair) -> Result<(), PairFault>
+    ensures ok { OnOk result (pairs.new.items ≡ pairs.old.items ++ pair ∷ []) }
 {
-    if meets_at_ends(all[i as usize].edge, all[j as usize]) {
-        return Ok(());
-    }
     if pairs.len() >= MOST_PAIRS {
         return Err(PairFault::TooMany);
     }
-    push(
+    push(pairs, pair)?;
+    Ok(())
+}
+
+// Lists the pair both ways round.
+fn push_both(pairs: &mut Vec<Pair>, i: u32, j: u32) -> Result<(), PairFault>
+    ensures ok { OnOk result (pairs.new.items ≡
+        (pairs.old.items ++ record { first = i; second = j } ∷ []) ++ record { first = j; second = i } ∷ []) }
+{
+    push_pair(
         pairs,
         Pair {
             first: i,
             second: j,
         },
     )?;
-    Ok(())
+    push_pair(
+        pairs,
+        Pair {
+            first: j,
+            second: i,
+        },
+    )
 }
 
-fn push_both(pairs: &mut Vec<Pair>, all: &[Marked], i: u32, j: u32) -> Result<(), PairFault>
+fn push_met(pairs: &mut Vec<Pair>, all: &[Marked], i: u32, j: u32) -> Result<(), PairFault>
     requires i_in { i < length all.now }
     requires j_in { j < length all.now }
     requires inside { All (IsInside (length all.now)) pairs.old.items }
@@ -300,8 +337,11 @@ fn push_both(pairs: &mut Vec<Pair>, all: &[Marked], i: u32, j: u32) -> Result<()
     ensures compared { OnOk result (AreCompared all.now pairs.new.items i j) }
     ensures inside { OnOk result (All (IsInside (length all.now)) pairs.new.items) }
 {
-    push_pair(pairs, all, i, j)?;
-    push_pair(pairs, all, j, i)
+    if both_at_ends(all[i as usize], all[j as usize]) {
+        return Ok(());
+    }
+    push_both(pairs, i, j)?;
+    Ok(())
 }
 
 // Two edges that aren't new meet at their ends alone.
@@ -335,7 +375,7 @@ fn compare(
     if are_old(news, a.index, b.index) {
         return Ok(());
     }
-    push_both(pairs, all, a.index, b.index)
+    push_met(pairs, all, a.index, b.index)
 }
 
 // The greatest key of a box in the same column that begins up to this one's high end.
