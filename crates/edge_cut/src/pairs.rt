@@ -8,7 +8,7 @@ ghost use Rattle.std.specs.Ordering.{int_eq};
 ghost use Rattle.slice_base.specs.Plane.{same_point, cross_of};
 ghost use Rattle.edge_cut.specs.Ordered.{MeetsAtEnds};
 ghost use Rattle.edge_cut.specs.Inner.Heights.{height_of, width_of};
-ghost use Rattle.edge_cut.specs.Inner.Pairs.{extent_of, above_least, column_of, first_column_of, last_column_of, key_of, limit_of, filed_at, AreRising, IsExtentOf, IsFileOf, IsFiled, AreFiled, IsPaired, AreCompared};
+ghost use Rattle.edge_cut.specs.Inner.Pairs.{extent_of, above_least, column_of, first_column_of, last_column_of, key_of, limit_of, filed_at, AreRising, IsExtentOf, IsFileOf, IsFiled, AreFiled, AreCompared};
 ghost use Rattle.edge_cut.specs.Inner.Pairs.{Keeps, KeepsFiles, IsInside, ComparedUpTo, ComparedBelow, ArePaired, ByFirst};
 ghost use Rattle.edge_cut.specs.Inner.Indices.{nothing, seconds};
 ghost use Rattle.edge_cut.specs.Inner.News.{AreSettled};
