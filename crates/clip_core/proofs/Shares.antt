@@ -1,10 +1,8 @@
 -- Edges added to rays, one by one.
 use Rattle.std.proofs.Common.{◌≡◌, ◌<◌, ◌≤◌, ◌+◌, ◌/◌, ℕ, zero, suc, ℤ, pos, negsuc, ◌+ℤ◌, ◌&&◌, Bool, true, false, cond, List, [], ◌∷◌, length, get_or, drop, inl, inr, ◌⊎◌, arith, refl, sym, ap, ◌∙◌, subst}
-use Rattle.std.specs.List.{All, Contains}
-use Rattle.std.specs.List.Sorted.{IsPermutation}
+use Rattle.std.specs.List.{All}
 use Rattle.std.specs.Int.RustNames.{unsigned_abs}
 use Rattle.std.proofs.lemmas.Int.{ints}
-use Rattle.std.proofs.lemmas.List.Sorted.{Contains-permutation}
 use Rattle.std.proofs.Math.IntN.{+ℤ_idr}
 use Rattle.edge_cut.specs.declared.passes.Marked.{Marked}
 use Rattle.clip_core.specs.declared.bundles.Bundle.{Bundle}
@@ -13,7 +11,7 @@ use Rattle.clip_core.specs.declared.rays.Ray.{Ray}
 use Rattle.clip_core.specs.Bundles.{is_lower, bundle_of}
 use Rattle.clip_core.specs.Windings.{direction_of, share_of, none, plus, tally_of, is_right_of, reaches, stands_right, sum_of}
 use Rattle.clip_core.specs.Inner.Small.{AreSmall}
-use Rattle.clip_core.specs.Inner.Rays.{nowhere, twice_middle, strip_of, ray_with, AreRising, IsKeyed, IsSmallRay, IsBare, IsFull, IsBareOf, AreNumbered, IsTold, HaveRays}
+use Rattle.clip_core.specs.Inner.Rays.{nowhere, twice_middle, strip_of, ray_with, AreRising, IsKeyed, IsSmallRay, IsBare, IsFull, IsBareOf, IsTold, HaveRays}
 use Rattle.clip_core.proofs.Tallies.{nothing, both, plus-none, tally_of-step, tally_of-end}
 
 -- an edge that misses a ray changes nothing
@@ -156,15 +154,6 @@ all-bare high bundles rays of k d below = (of k d below).bare
 
 pub all-keyed : (high : ℕ) (bundles : List Bundle) (rays : List Ray) → All (IsBareOf high bundles) rays → All (IsKeyed high) rays
 all-keyed high bundles rays of k d below = (of k d below).keyed
-
--- each bundle has a ray among those that were sorted
-pub sorted-has : (bundles : List Bundle) (old rays : List Ray) → length old ≡ length bundles → AreNumbered old → IsPermutation old rays → HaveRays bundles rays
-sorted-has bundles old rays len numbered moved k d below =
-    let at : k < length old = omega (arith, below, len) in
-    let r = get_or old k d in
-    let there : Contains old r = (k, at, any-default old k r d at) in
-    let c = Contains-permutation old rays r moved there in
-    (c.0, c.1, ap (λ (q : Ray). q.index) (any-default rays c.0 d r c.1 ∙ c.2) ∙ numbered k d at)
 
 -- and still once edges were added
 pub full-has : (all : List Marked) (bundles : List Bundle) (bare rays : List Ray) → length rays ≡ length bare → HaveRays bundles bare → ((k : ℕ) (d : Ray) → k < length rays → IsFull all (get_or bare k d) (get_or rays k d)) → HaveRays bundles rays

@@ -6,3 +6,4 @@ pub mod Indexed
 pub mod Hulls
 pub mod Raises
 pub mod Starts
+pub mod Spots

@@ -13,6 +13,7 @@ mod net_counts;
 mod outlines;
 mod raises;
 mod rays;
+mod spots;
 mod starts;
 mod strips;
 mod tidying;

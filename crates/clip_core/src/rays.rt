@@ -8,8 +8,9 @@ ghost use Rattle.clip_core.specs.Bundles.{bundle_of};
 ghost use Rattle.clip_core.specs.Windings.{share_of, none, plus, reaches, stands_right};
 ghost use Rattle.clip_core.specs.Inner.Small.{AreSmall};
 ghost use Rattle.clip_core.specs.Inner.Rays.{strip_of, strip_at, twice_middle, is_under, is_up_to, meets_ray, ray_with};
-ghost use Rattle.clip_core.specs.Inner.Rays.{AreRising, IsKeyed, IsSmallRay, IsBareOf, IsBare, IsRayOf, AreNumbered, IsTold, HaveRays};
+ghost use Rattle.clip_core.specs.Inner.Rays.{AreRising, IsKeyed, IsSmallRay, IsBareOf, IsBare, IsRayOf, IsTold, HaveRays};
 ghost use Rattle.clip_core.specs.Inner.Hulls.{IsHull, AreHulls};
+ghost use Rattle.clip_core.specs.Inner.Spots.{IsSpotOf, IsRayAt, AreAt};
 ghost use Rattle.clip_core.specs.Inner.Starts.{AreFirsts};
 ghost use Rattle.clip_core.specs.Inner.Raises.{AllSmall, Adds, AreWith, AreFull};
 ghost use Rattle.clip_core.specs.declared.windings.Windings.{Windings};
@@ -17,8 +18,9 @@ ghost use Rattle.clip_core.specs.declared.windings.Windings.{Windings};
 use crate::bundles::{Bundle, bundle_of};
 use crate::hulls::{Hull, hull_of, hulls_of, misses, takes};
 use crate::raises::{lift, raise};
+use crate::spots::{Spot, sorted_spots};
 use crate::starts::{Starts, first_up, starts_of};
-use crate::strips::{key_of, strip_height, strip_of};
+use crate::strips::{strip_height, strip_of};
 use crate::windings::{Windings, add_if, is_level, nones, reaches, share, stands_right};
 use edge_cut::Marked;
 use slice_base::NoMemory;
@@ -309,18 +311,15 @@ fn add_edges(
     }
 }
 
-fn ray_from(bundle: Bundle, index: usize, high: u64) -> Ray
-    requires few { index < 100000 }
-    requires tall { 4 ≤ high }
+fn ray_from(bundle: Bundle, spot: Spot) -> Ray
     ensures bundle { result.bundle ≡ bundle }
-    ensures index { result.index ≡ index }
-    ensures keyed { IsKeyed high result }
+    ensures at { IsRayAt spot result }
     ensures bare { IsBare result }
 {
     Ray {
-        key: key_of(bundle, high),
+        key: spot.key,
         bundle,
-        index: index as u32,
+        index: spot.index,
         sum: Windings {
             first: 0,
             second: 0,
@@ -328,16 +327,28 @@ fn ray_from(bundle: Bundle, index: usize, high: u64) -> Ray
     }
 }
 
-fn rays_from(alloc: Global, bundles: &[Bundle], high: u64) -> Result<Vec<Ray>, NoMemory>
-    requires few { length bundles.now ≤ 100000 }
-    requires tall { 4 ≤ high }
-    ensures count { IfOk result (λ rays. length rays.items ≡ length bundles.now) }
-    ensures are { IfOk result (λ rays. All (IsBareOf high bundles.now) rays.items) }
-    ensures numbered { IfOk result (λ rays. AreNumbered rays.items) }
+// The ray of the bundle at the spot's index.
+fn ray_of(bundles: &[Bundle], spot: Spot, high: u64) -> Ray
+    requires { IsSpotOf high bundles.now spot }
+    ensures of_bundle { IsBareOf high bundles.now result }
+    ensures at { IsRayAt spot result }
 {
-    let mut rays = Vec::with_capacity(alloc, bundles.len())?;
-    for index in 0..bundles.len() {
-        rays.push(ray_from(bundles[index], index, high))?;
+    ray_from(bundles[spot.index as usize], spot)
+}
+
+fn rays_from(
+    alloc: Global,
+    bundles: &[Bundle],
+    spots: &[Spot],
+    high: u64,
+) -> Result<Vec<Ray>, NoMemory>
+    requires { All (IsSpotOf high bundles.now) spots.now }
+    ensures are { IfOk result (λ rays. All (IsBareOf high bundles.now) rays.items) }
+    ensures at { IfOk result (λ rays. AreAt spots.now rays.items) }
+{
+    let mut rays = Vec::with_capacity(alloc, spots.len())?;
+    for k in 0..spots.len() {
+        rays.push(ray_of(bundles, spots[k], high))?;
     }
     Ok(rays)
 }
@@ -350,8 +361,8 @@ fn sorted_rays(alloc: Global, bundles: &[Bundle], high: u64) -> Result<Vec<Ray>,
     ensures each { IfOk result (λ rays. HaveRays bundles.now rays.items) }
     ensures rising { IfOk result (λ rays. AreRising rays.items) }
 {
-    let mut rays = rays_from(alloc, bundles, high)?;
-    rays.sort_unstable_by_key(|r| r.key);
+    let spots = sorted_spots(alloc, bundles, high)?;
+    let rays = rays_from(alloc, bundles, spots.as_slice(), high)?;
     Ok(rays)
 }
 

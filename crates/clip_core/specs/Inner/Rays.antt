@@ -91,10 +91,6 @@ pub record IsBareOf (high : ℕ) (bundles : List Bundle) (r : Ray) : Type 0 wher
   pub keyed : IsKeyed high r
   pub bare : IsBare r
 
--- each ray has the index of its own place
-abbrev pub AreNumbered : List Ray → Type 0
-AreNumbered rays = (k : ℕ) (d : Ray) → k < length rays → (slice_index_or rays k d).index ≡ k
-
 -- the ray is that of the bundle at its index, with all these edges
 pub record IsTold (all : List Marked) (bundles : List Bundle) (r : Ray) : Type 0 where
   pub of_bundle : IsRayOf bundles r

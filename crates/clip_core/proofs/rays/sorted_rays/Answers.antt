@@ -1,17 +1,18 @@
-use Rattle.std.proofs.Common.{rules, arith}
-use Rattle.std.proofs.lemmas.List.Sorted.{IsNonDecreasingBy-from_sort_by_key, All-permutation, length_permutation}
-use Rattle.clip_core.specs.Inner.Rays.{IsBareOf}
-use Rattle.clip_core.proofs.Shares.{sorted-has}
+use Rattle.std.proofs.Common.{◌∙◌, List, length, ap, subst}
+use Rattle.clip_core.specs.declared.spots.Spot.{Spot}
+use Rattle.clip_core.specs.Inner.Spots.{AreAt}
+use Rattle.clip_core.proofs.Spotted.{rays-have, rays-rise}
 use Rattle.clip_core.proofs.rays.sorted_rays.Goals as goal
 
 pub returns-clause-count : goal.returns-clause-count
-returns-clause-count c = omega (arith, length_permutation c.in_ok-rays.rays.items c.sort_unstable_by_key.new.self.items c.sort_unstable_by_key.ensures.permutation, c.in_ok-rays.ensures.count)
-
-pub returns-clause-are : goal.returns-clause-are
-returns-clause-are c = All-permutation (IsBareOf c.args.high c.args.bundles.now) c.in_ok-rays.rays.items c.sort_unstable_by_key.new.self.items c.sort_unstable_by_key.ensures.permutation c.in_ok-rays.ensures.are
+returns-clause-count c = c.in_ok-rays.ensures.at.count ∙ (ap length c.as_slice.ensures.value ∙ c.in_ok-spots.ensures.count)
 
 pub returns-clause-each : goal.returns-clause-each
-returns-clause-each c = sorted-has c.args.bundles.now c.in_ok-rays.rays.items c.sort_unstable_by_key.new.self.items c.in_ok-rays.ensures.count c.in_ok-rays.ensures.numbered c.sort_unstable_by_key.ensures.permutation
+returns-clause-each c =
+    let rays = c.in_ok-rays.rays.items in
+    rays-have c.args.bundles.now c.in_ok-spots.spots.items rays (subst (λ (ss : List Spot). AreAt ss rays) c.as_slice.ensures.value c.in_ok-rays.ensures.at) c.in_ok-spots.ensures.each
 
 pub returns-clause-rising : goal.returns-clause-rising
-returns-clause-rising c = IsNonDecreasingBy-from_sort_by_key (λ r. r.key) _ c.sort_unstable_by_key.ensures.sorted (λ a r q k. search rules)
+returns-clause-rising c =
+    let rays = c.in_ok-rays.rays.items in
+    rays-rise c.in_ok-spots.spots.items rays (subst (λ (ss : List Spot). AreAt ss rays) c.as_slice.ensures.value c.in_ok-rays.ensures.at) c.in_ok-spots.ensures.rising
