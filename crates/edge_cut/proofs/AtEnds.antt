@@ -5,22 +5,21 @@ use Rattle.std.specs.Int.RustNames.{unsigned_abs}
 use Rattle.std.specs.Cmp.{signed_Decides}
 use Rattle.std.proofs.Math.IntN.{neg_ℤ, *ℤ-zero, zero-*ℤ, +ℤ_idl, +ℤ_idr}
 use Rattle.std.proofs.lemmas.Int.{ints}
-use Rattle.std.proofs.lemmas.Bool.{and_parts}
 use Rattle.slice_base.specs.declared.points.Pt.{Pt}
 use Rattle.slice_base.specs.declared.points.Edge.{Edge}
 use Rattle.slice_base.specs.Plane.{cross_of, same_point}
 use Rattle.slice_base.specs.Whole.{rounded}
 use Rattle.slice_base.proofs.SamePoint.{same_point-is}
-use Rattle.edge_cut.specs.declared.passes.Marked.{Marked}
-use Rattle.edge_cut.specs.declared.pairs.Sides.{Sides}
+use Rattle.edge_cut.specs.declared.sides.Sides.{Sides}
 use Rattle.edge_cut.specs.Meeting.{is_part, weighted, point_at, shared_of, crossing_of, meeting_of, turn_of, part_on, part_across, end_on}
-use Rattle.edge_cut.specs.Ordered.{IsEnd, MeetsAtEnds}
-use Rattle.edge_cut.specs.Inner.Sides.{AreSides, share_end, have_ends}
+use Rattle.std.specs.List.{Contains}
+use Rattle.edge_cut.specs.Ordered.{IsEnd}
+use Rattle.edge_cut.specs.Inner.Sides.{AreSides, share_end}
 use Rattle.slice_base.proofs.Rounding.{rounded-le, le-rounded}
 use Rattle.edge_cut.proofs.Ordered.{In, in-contained}
 use Rattle.slice_base.proofs.Rings.{diff, diff_of, diff-eq, diff-sub, diff-mul}
 use Rattle.edge_cut.proofs.Apart.{both-true, by-bool, none-if}
-use Rattle.edge_cut.proofs.BothEdges.{turn-back, zero-back, cross-sum, crossing-taken, crossing-exchanged, shared-lies}
+use Rattle.edge_cut.proofs.BothEdges.{turn-back, zero-back, cross-sum, crossing-taken, crossing-exchanged}
 
 -- both ends of f on one side of e
 
@@ -43,26 +42,30 @@ one-side-none e f s t es et h =
     (λ _. none-if (is_part (part_on e f) (turn_of e f) && is_part (part_across e f) (turn_of e f)) _
     (λ both. not-part s t (turn_of e f) h sum (subst (λ (z : ℤ). is_part z (turn_of e f) ≡ true) across (both-true (is_part (part_on e f) (turn_of e f)) (is_part (part_across e f) (turn_of e f)) both).1)))
 
-none-in : (e : Edge) (m : Marked) → meeting_of e m.edge ≡ [] → MeetsAtEnds e m
-none-in e m none p h = elim (subst (λ (ps : List Pt). In p ps) none (in-contained p (meeting_of e m.edge) h)) [ ]
+-- e meets f at its own ends alone
+abbrev pub AtEnds : Edge → Edge → Type 0
+AtEnds e f = (p : Pt) → Contains (meeting_of e f) p → IsEnd e p
 
-pub one-side : (e : Edge) (m : Marked) (s : Sides) (r : Bool) → AreSides e m.edge s → r ≡ ((int_lt (pos 0) s.from && int_lt (pos 0) s.to) || (int_lt s.from (pos 0) && int_lt s.to (pos 0))) → r ≡ true → MeetsAtEnds e m
-one-side e m s r are is h = none-in e m (one-side-none e m.edge s.from s.to are.from_is are.to_is (sym is ∙ h))
+none-in : (e f : Edge) → meeting_of e f ≡ [] → AtEnds e f
+none-in e f none p h = elim (subst (λ (ps : List Pt). In p ps) none (in-contained p (meeting_of e f) h)) [ ]
 
--- parallel edges with the same two ends
+pub one-side : (e f : Edge) (s : Sides) (r : Bool) → AreSides e f s → r ≡ ((int_lt (pos 0) s.from && int_lt (pos 0) s.to) || (int_lt s.from (pos 0) && int_lt s.to (pos 0))) → r ≡ true → AtEnds e f
+one-side e f s r are is h = none-in e f (one-side-none e f s.from s.to are.from_is are.to_is (sym is ∙ h))
+
+-- parallel edges
 
 either-true : (a b : Bool) → (a || b) ≡ true → (a ≡ true) ⊎ (b ≡ true)
 either-true true b h = inl refl
 either-true false b h = inr h
 
-is-end : (e : Edge) (p : Pt) → (same_point p e.from || same_point p e.to) ≡ true → IsEnd e p
+pub is-end : (e : Edge) (p : Pt) → (same_point p e.from || same_point p e.to) ≡ true → IsEnd e p
 is-end e p h = pick (either-true (same_point p e.from) (same_point p e.to) h)
   where
     pick : (same_point p e.from ≡ true) ⊎ (same_point p e.to ≡ true) → IsEnd e p
     pick (inl g) = inl (same_point-is p e.from g)
     pick (inr g) = inr (same_point-is p e.to g)
 
-no-turn : (s t w : ℤ) → t ≡ s +ℤ w → s ≡ t → int_eq w (pos 0) ≡ true
+pub no-turn : (s t w : ℤ) → t ≡ s +ℤ w → s ≡ t → int_eq w (pos 0) ≡ true
 no-turn s t w sum same = grind (arith, ints)
 
 some-turn : (s t w : ℤ) → t ≡ s +ℤ w → s ≢ t → int_eq w (pos 0) ≡ true → ⊥
@@ -71,23 +74,14 @@ some-turn s t w sum other h = other (omega-zero s t w sum ((signed_Decides w (po
     omega-zero : (s t w : ℤ) → t ≡ s +ℤ w → w ≡ pos 0 → s ≡ t
     omega-zero s t w sum h = omega (arith, ints)
 
-sides-sum : (e f : Edge) (s : Sides) → AreSides e f s → s.to ≡ s.from +ℤ turn_of e f
+pub sides-sum : (e f : Edge) (s : Sides) → AreSides e f s → s.to ≡ s.from +ℤ turn_of e f
 sides-sum e f s are = are.to_is ∙ (side-sum e f ∙ ap (λ (z : ℤ). z +ℤ turn_of e f) (sym are.from_is))
-
-end-of-second : (e f : Edge) (p : Pt) → have_ends e f ≡ true → IsEnd f p → IsEnd e p
-end-of-second e f p h (inl is) = subst (λ (q : Pt). IsEnd e q) (sym is) (is-end e f.from (and_parts (same_point f.from e.from || same_point f.from e.to) (same_point f.to e.from || same_point f.to e.to) h).0)
-end-of-second e f p h (inr is) = subst (λ (q : Pt). IsEnd e q) (sym is) (is-end e f.to (and_parts (same_point f.from e.from || same_point f.from e.to) (same_point f.to e.from || same_point f.to e.to) h).1)
 
 pub level-same : (s : Sides) (r : Bool) → r ≡ int_eq s.from s.to → r ≡ true → s.from ≡ s.to
 level-same s r is h = (signed_Decides s.from s.to).0 (sym is ∙ h)
 
 pub level-not : (s : Sides) (r : Bool) → r ≡ int_eq s.from s.to → r ≡ false → s.from ≢ s.to
 level-not s r is h same = let yes' = (signed_Decides s.from s.to).1 same in let no' : int_eq s.from s.to ≡ false = sym is ∙ h in absurd (cc)
-
-pub same-ends : (e : Edge) (m : Marked) (s : Sides) (r : Bool) → AreSides e m.edge s → s.from ≡ s.to → r ≡ have_ends e m.edge → r ≡ true → MeetsAtEnds e m
-same-ends e m s r are same is h p meets =
-    let flat = no-turn s.from s.to (turn_of e m.edge) (sides-sum e m.edge s are) same in
-    end-of-second e m.edge p (sym is ∙ h) (shared-lies e m.edge flat p meets).1
 
 -- a shared end of edges that aren't parallel
 
@@ -127,7 +121,7 @@ point-last e w some =
     let y = rounded-whole (weighted e.from.y e.to.y w w) e.to.y w some (weighted-last e.from.y e.to.y w) in
     λ i. record { x = x i; y = y i }
 
-some-whole : (w : ℤ) → int_eq w (pos 0) ≡ false → 0 < unsigned_abs w
+pub some-whole : (w : ℤ) → int_eq w (pos 0) ≡ false → 0 < unsigned_abs w
 some-whole w h = grind (arith, ints)
 
 -- the part of the way is none or all
@@ -207,23 +201,22 @@ turn-not w h = pick (int_eq w (pos 0)) refl
     pick true is = absurd (h is)
     pick false is = is
 
-at-ends-by : (e : Edge) (m : Marked) → int_eq (turn_of e m.edge) (pos 0) ≡ false → IsWholePart e m.edge → MeetsAtEnds e m
-at-ends-by e m turn whole p meets =
-    let f = m.edge in
+at-ends-by : (e f : Edge) → int_eq (turn_of e f) (pos 0) ≡ false → IsWholePart e f → AtEnds e f
+at-ends-by e f turn whole p meets =
     let crossing = crossing-taken (int_eq (turn_of e f) (pos 0)) (shared_of e f) (crossing_of e f) turn in
     in-one e p (point_at e (unsigned_abs (part_on e f)) (unsigned_abs (turn_of e f))) (is_part (part_on e f) (turn_of e f) && is_part (part_across e f) (turn_of e f))
     (point-end e f turn whole)
     (subst (λ (ps : List Pt). In p ps) crossing (in-contained p (meeting_of e f) meets))
 
-turn-by-sides : (e f : Edge) (s : Sides) → AreSides e f s → s.from ≢ s.to → int_eq (turn_of e f) (pos 0) ≡ false
+pub turn-by-sides : (e f : Edge) (s : Sides) → AreSides e f s → s.from ≢ s.to → int_eq (turn_of e f) (pos 0) ≡ false
 turn-by-sides e f s are other = turn-not (turn_of e f) (some-turn s.from s.to (turn_of e f) (sides-sum e f s are) other)
 
-pub shared-end : (e : Edge) (m : Marked) (s : Sides) (r : Bool) → AreSides e m.edge s → s.from ≢ s.to → r ≡ share_end e m.edge → r ≡ true → MeetsAtEnds e m
-shared-end e m s r are other is h = at-ends-by e m (turn-by-sides e m.edge s are other) (whole-part e m.edge (sym is ∙ h))
+pub shared-end : (e f : Edge) (s : Sides) (r : Bool) → AreSides e f s → s.from ≢ s.to → r ≡ share_end e f → r ≡ true → AtEnds e f
+shared-end e f s r are other is h = at-ends-by e f (turn-by-sides e f s are other) (whole-part e f (sym is ∙ h))
 
 -- from the other edge
 
-turn-other : (e f : Edge) → int_eq (turn_of e f) (pos 0) ≡ false → int_eq (turn_of f e) (pos 0) ≡ false
+pub turn-other : (e f : Edge) → int_eq (turn_of e f) (pos 0) ≡ false → int_eq (turn_of f e) (pos 0) ≡ false
 turn-other e f h = subst (λ (z : ℤ). int_eq z (pos 0) ≡ false) (sym (turn-back e.from e.to f.from f.to)) (zero-back (turn_of e f) h)
 
 whole-part-back : (e f : Edge) → share_end e f ≡ true → IsWholePart f e
@@ -241,16 +234,16 @@ whole-part-back e f h = pick (either-true (same_point f.from e.from || same_poin
     pick (inl g) = by-first (is-end e f.from g)
     pick (inr g) = by-last (is-end e f.to g)
 
-pub shared-end-back : (e f : Marked) (s : Sides) (r : Bool) → AreSides e.edge f.edge s → s.from ≢ s.to → r ≡ share_end e.edge f.edge → r ≡ true → MeetsAtEnds f.edge e
+pub shared-end-back : (e f : Edge) (s : Sides) (r : Bool) → AreSides e f s → s.from ≢ s.to → r ≡ share_end e f → r ≡ true → AtEnds f e
 shared-end-back e f s r are other is h =
-    at-ends-by f.edge e (turn-other e.edge f.edge (turn-by-sides e.edge f.edge s are other)) (whole-part-back e.edge f.edge (sym is ∙ h))
+    at-ends-by f e (turn-other e f (turn-by-sides e f s are other)) (whole-part-back e f (sym is ∙ h))
 
-none-back : (e f : Marked) (s : Sides) → AreSides e.edge f.edge s → s.from ≢ s.to → meeting_of f.edge e.edge ≡ [] → MeetsAtEnds e.edge f
-none-back e f s are other none = none-in e.edge f (crossing-exchanged e.edge f.edge (turn-by-sides e.edge f.edge s are other) ∙ none)
+none-back : (e f : Edge) (s : Sides) → AreSides e f s → s.from ≢ s.to → meeting_of f e ≡ [] → AtEnds e f
+none-back e f s are other none = none-in e f (crossing-exchanged e f (turn-by-sides e f s are other) ∙ none)
 
-pub one-side-back : (e f : Marked) (s : Sides) (r : Bool) → AreSides e.edge f.edge s → s.from ≢ s.to → r ≡ ((int_lt (pos 0) s.from && int_lt (pos 0) s.to) || (int_lt s.from (pos 0) && int_lt s.to (pos 0))) → r ≡ true → MeetsAtEnds f.edge e
+pub one-side-back : (e f : Edge) (s : Sides) (r : Bool) → AreSides e f s → s.from ≢ s.to → r ≡ ((int_lt (pos 0) s.from && int_lt (pos 0) s.to) || (int_lt s.from (pos 0) && int_lt s.to (pos 0))) → r ≡ true → AtEnds f e
 one-side-back e f s r are other is h =
-    none-in f.edge e (sym (crossing-exchanged e.edge f.edge (turn-by-sides e.edge f.edge s are other)) ∙ one-side-none e.edge f.edge s.from s.to are.from_is are.to_is (sym is ∙ h))
+    none-in f e (sym (crossing-exchanged e f (turn-by-sides e f s are other)) ∙ one-side-none e f s.from s.to are.from_is are.to_is (sym is ∙ h))
 
-pub other-side : (e f : Marked) (s t : Sides) (r : Bool) → AreSides e.edge f.edge s → s.from ≢ s.to → AreSides f.edge e.edge t → r ≡ ((int_lt (pos 0) t.from && int_lt (pos 0) t.to) || (int_lt t.from (pos 0) && int_lt t.to (pos 0))) → r ≡ true → MeetsAtEnds e.edge f
-other-side e f s t r are other others is h = none-back e f s are other (one-side-none f.edge e.edge t.from t.to others.from_is others.to_is (sym is ∙ h))
+pub other-side : (e f : Edge) (s t : Sides) (r : Bool) → AreSides e f s → s.from ≢ s.to → AreSides f e t → r ≡ ((int_lt (pos 0) t.from && int_lt (pos 0) t.to) || (int_lt t.from (pos 0) && int_lt t.to (pos 0))) → r ≡ true → AtEnds e f
+other-side e f s t r are other others is h = none-back e f s are other (one-side-none f e t.from t.to others.from_is others.to_is (sym is ∙ h))

@@ -141,10 +141,10 @@ stepped-back ax ay bx by cx cy dx dy =
 pub turn-back : (a b c d : Pt) → cross_of c d a b ≡ neg_ℤ (cross_of a b c d)
 turn-back a b c d = turned-back a.x a.y b.x b.y c.x c.y d.x d.y
 
-step-back : (a b c d : Pt) → cross_of b a c d ≡ neg_ℤ (cross_of a b c d)
+pub step-back : (a b c d : Pt) → cross_of b a c d ≡ neg_ℤ (cross_of a b c d)
 step-back a b c d = stepped-back a.x a.y b.x b.y c.x c.y d.x d.y
 
-neg-twice : (a : ℤ) → neg_ℤ (neg_ℤ a) ≡ a
+pub neg-twice : (a : ℤ) → neg_ℤ (neg_ℤ a) ≡ a
 neg-twice a = omega (arith, ints)
 
 part-back : (t w : ℤ) → is_part t w ≡ true → is_part (neg_ℤ t) (neg_ℤ w) ≡ true

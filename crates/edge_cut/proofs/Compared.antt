@@ -1,4 +1,4 @@
--- Boxes compared pair by pair.
+-- Boxes compared with each other.
 use Rattle.std.proofs.Common.{◌≡◌, ◌≢◌, ◌<◌, ◌≤◌, ◌+◌, ◌*◌, ℕ, zero, suc, ◌&&◌, Bool, true, false, not, List, [], ◌∷◌, ◌++◌, length, get_or, inl, inr, ◌⊎◌, arith, refl, sym, ap, ◌∙◌, subst}
 use Rattle.std.specs.Prelude.{int_le, nat_le}
 use Rattle.std.specs.List.{All, Contains}
@@ -11,21 +11,22 @@ use Rattle.slice_base.specs.declared.points.Edge.{Edge}
 use Rattle.clip_bands.specs.declared.bands.Span.{Span}
 use Rattle.clip_bands.specs.Indices.{touches}
 use Rattle.edge_cut.specs.declared.passes.Marked.{Marked}
-use Rattle.edge_cut.specs.declared.pairs.Extent.{Extent}
-use Rattle.edge_cut.specs.declared.pairs.Filed.{Filed}
-use Rattle.edge_cut.specs.declared.pairs.Pair.{Pair}
+use Rattle.edge_cut.specs.declared.columns.Extent.{Extent}
+use Rattle.edge_cut.specs.declared.columns.Filed.{Filed}
+use Rattle.edge_cut.specs.declared.meetings.Meeting.{Meeting}
 use Rattle.edge_cut.specs.Meeting.{meeting_of}
-use Rattle.edge_cut.specs.Ordered.{MeetsAtEnds}
+use Rattle.edge_cut.specs.Ordered.{IsEnd}
 use Rattle.edge_cut.specs.Inner.Indices.{nothing}
-use Rattle.edge_cut.specs.Inner.Pairs.{extent_of, above_least, key_of, filed_at, limit_of, AreRising, IsExtentOf, IsFileOf, KeepsFiles, IsFiled, AreFiled, IsPaired, AreCompared, Keeps, IsInside, ComparedUpTo, ComparedBelow, ArePaired}
+use Rattle.edge_cut.specs.Inner.Columns.{extent_of, above_least, key_of, filed_at, limit_of, AreRising, IsExtentOf, IsFileOf, KeepsFiles, IsFiled, AreFiled}
+use Rattle.edge_cut.specs.Inner.Meetings.{meeting_at, Keeps, AreAt, IsListed, AreCompared, ComparedUpTo, ComparedBelow, AreListed}
 use Rattle.edge_cut.proofs.Ordered.{In, in-contained, contains-in}
 use Rattle.edge_cut.proofs.Beside.{meetings-apart, meetings-beside}
-use Rattle.edge_cut.proofs.Columns.{higher, common}
+use Rattle.edge_cut.proofs.InColumns.{higher, common}
 
 -- edges whose boxes are apart don't meet
 
-none-in : (e : Edge) (m : Marked) → meeting_of e m.edge ≡ [] → MeetsAtEnds e m
-none-in e m none p h = elim (subst (λ (ps : List Pt). In p ps) none (in-contained p (meeting_of e m.edge) h)) [ ]
+none-at : (e f : Edge) (i : ℕ) (meetings : List Meeting) → meeting_of e f ≡ [] → AreAt e i (meeting_of e f) meetings
+none-at e f i meetings none p h = elim (subst (λ (ps : List Pt). In p ps) none (in-contained p (meeting_of e f) h)) [ ]
 
 turned : (a b : Bool) → (a && b) ≡ false → (b && a) ≡ false
 turned true true h = h
@@ -45,24 +46,24 @@ along-none true i j e f h = meetings-beside e f h
 along-none false i j e f h = meetings-apart e f h
 
 -- what is apart needn't be listed
-pub across-compared : (lies : Bool) (all : List Marked) (pairs : List Pair) (a b : Extent) → IsExtentOf lies all a → IsExtentOf lies all b → touches a.across b.across ≡ false → AreCompared all pairs a.index b.index
-across-compared lies all pairs a b ha hb h =
+pub across-compared : (lies : Bool) (all : List Marked) (meetings : List Meeting) (a b : Extent) → IsExtentOf lies all a → IsExtentOf lies all b → touches a.across b.across ≡ false → AreCompared all meetings a.index b.index
+across-compared lies all meetings a b ha hb h =
     let m = get_or all a.index nothing in
     let n = get_or all b.index nothing in
     let g : touches (extent_of lies a.index m.edge).across (extent_of lies b.index n.edge).across ≡ false = sym (λ i. touches (ha.is i).across (hb.is i).across) ∙ h in
     record {
-      forth = inr (none-in m.edge n (across-none lies a.index b.index m.edge n.edge g));
-      back = inr (none-in n.edge m (across-none lies b.index a.index n.edge m.edge (touches-turned (extent_of lies a.index m.edge).across (extent_of lies b.index n.edge).across g)));
+      forth = none-at m.edge n.edge a.index meetings (across-none lies a.index b.index m.edge n.edge g);
+      back = none-at n.edge m.edge b.index meetings (across-none lies b.index a.index n.edge m.edge (touches-turned (extent_of lies a.index m.edge).across (extent_of lies b.index n.edge).across g));
     }
 
-pub along-compared : (lies : Bool) (all : List Marked) (pairs : List Pair) (a b : Extent) → IsExtentOf lies all a → IsExtentOf lies all b → touches a.along b.along ≡ false → AreCompared all pairs a.index b.index
-along-compared lies all pairs a b ha hb h =
+pub along-compared : (lies : Bool) (all : List Marked) (meetings : List Meeting) (a b : Extent) → IsExtentOf lies all a → IsExtentOf lies all b → touches a.along b.along ≡ false → AreCompared all meetings a.index b.index
+along-compared lies all meetings a b ha hb h =
     let m = get_or all a.index nothing in
     let n = get_or all b.index nothing in
     let g : touches (extent_of lies a.index m.edge).along (extent_of lies b.index n.edge).along ≡ false = sym (λ i. touches (ha.is i).along (hb.is i).along) ∙ h in
     record {
-      forth = inr (none-in m.edge n (along-none lies a.index b.index m.edge n.edge g));
-      back = inr (none-in n.edge m (along-none lies b.index a.index n.edge m.edge (touches-turned (extent_of lies a.index m.edge).along (extent_of lies b.index n.edge).along g)));
+      forth = none-at m.edge n.edge a.index meetings (along-none lies a.index b.index m.edge n.edge g);
+      back = none-at n.edge m.edge b.index meetings (along-none lies b.index a.index n.edge m.edge (touches-turned (extent_of lies a.index m.edge).along (extent_of lies b.index n.edge).along g));
     }
 
 isnt-true : (t : Bool) → not t ≡ true → t ≡ false
@@ -74,18 +75,23 @@ across-not s t r is h = isnt-true (touches s t) (sym is ∙ h)
 
 -- what was listed stays listed
 
-still-paired : (all : List Marked) (old new : List Pair) (i j : ℕ) → Keeps old new → IsPaired all old i j → IsPaired all new i j
-still-paired all old new i j kept (inl h) = inl (kept (record { first = i; second = j }) h)
-still-paired all old new i j kept (inr h) = inr h
+still-there : (old new : List Meeting) (e : Edge) (i : ℕ) (p : Pt) → Keeps old new → Contains old (meeting_at i p) ⊎ IsEnd e p → Contains new (meeting_at i p) ⊎ IsEnd e p
+still-there old new e i p kept (inl h) = inl (kept (meeting_at i p) h)
+still-there old new e i p kept (inr h) = inr h
 
-pub still-compared : (all : List Marked) (old new : List Pair) (i j : ℕ) → Keeps old new → AreCompared all old i j → AreCompared all new i j
-still-compared all old new i j kept h = record { forth = still-paired all old new i j kept h.forth; back = still-paired all old new j i kept h.back }
+pub still-at : (old new : List Meeting) (e : Edge) (i : ℕ) (ps : List Pt) → Keeps old new → AreAt e i ps old → AreAt e i ps new
+still-at old new e i ps kept at p h = still-there old new e i p kept (at p h)
 
-pub keeps-then : (a b c : List Pair) → Keeps a b → Keeps b c → Keeps a c
-keeps-then a b c g h p there = h p (g p there)
+still-listed : (all : List Marked) (old new : List Meeting) (i j : ℕ) → Keeps old new → IsListed all old i j → IsListed all new i j
+still-listed all old new i j kept h =
+    let e = (get_or all i nothing).edge in
+    still-at old new e i (meeting_of e (get_or all j nothing).edge) kept h
 
-pub both-compared : (all : List Marked) (one two : List Pair) (i j : ℕ) → Keeps one two → IsPaired all one i j → IsPaired all two j i → AreCompared all two i j
-both-compared all one two i j kept g h = record { forth = still-paired all one two i j kept g; back = h }
+pub still-compared : (all : List Marked) (old new : List Meeting) (i j : ℕ) → Keeps old new → AreCompared all old i j → AreCompared all new i j
+still-compared all old new i j kept h = record { forth = still-listed all old new i j kept h.forth; back = still-listed all old new j i kept h.back }
+
+pub keeps-then : (a b c : List Meeting) → Keeps a b → Keeps b c → Keeps a c
+keeps-then a b c g h m there = h m (g m there)
 
 -- on the walk from r
 
@@ -103,10 +109,10 @@ any-default [] i d e below = absurd (omega arith)
 any-default (x ∷ xs) zero d e below = refl
 any-default (x ∷ xs) (suc i) d e below = any-default xs i d e (omega arith)
 
-pub none-yet : (all : List Marked) (pairs : List Pair) (fs : List Filed) (r : ℕ) → ComparedUpTo all pairs fs r (r + 1)
-none-yet all pairs fs r s d later below same = absurd (omega arith)
+pub none-yet : (all : List Marked) (meetings : List Meeting) (fs : List Filed) (r : ℕ) → ComparedUpTo all meetings fs r (r + 1)
+none-yet all meetings fs r s d later below same = absurd (omega arith)
 
-pub one-compared : (all : List Marked) (old new : List Pair) (fs : List Filed) (r s : ℕ) (a b : Filed) → r < s → s < length fs → ((d : Filed) → get_or fs r d ≡ a) → ((d : Filed) → get_or fs s d ≡ b) → Keeps old new → ComparedUpTo all old fs r s → AreCompared all new a.extent.index b.extent.index → ComparedUpTo all new fs r (s + 1)
+pub one-compared : (all : List Marked) (old new : List Meeting) (fs : List Filed) (r s : ℕ) (a b : Filed) → r < s → s < length fs → ((d : Filed) → get_or fs r d ≡ a) → ((d : Filed) → get_or fs s d ≡ b) → Keeps old new → ComparedUpTo all old fs r s → AreCompared all new a.extent.index b.extent.index → ComparedUpTo all new fs r (s + 1)
 one-compared all old new fs r s a b up below ra sb kept so_far here t d later lt same = pick (below-or-last t s lt)
   where
     pick : (t < s) ⊎ (t ≡ s) → AreCompared all new (get_or fs r d).extent.index (get_or fs t d).extent.index
@@ -149,10 +155,10 @@ later-key : (k l m : ℕ) → k < l → l ≤ m → k < m
 later-key k l m lt le = omega arith
 
 -- where the walk stops, all boxes behind in the column are apart
-pub rest-compared : (lies : Bool) (all : List Marked) (pairs : List Pair) (fs : List Filed) (r s : ℕ) (e : Filed) (limit : ℕ) → r < length fs → s < length fs → AreRising fs → All (IsFileOf lies all) fs → limit ≡ limit_of (get_or fs r e) → nat_le (get_or fs s e).key limit ≡ false → ComparedUpTo all pairs fs r s → ComparedUpTo all pairs fs r (length fs)
-rest-compared lies all pairs fs r s e limit rin sin rising are is over so_far t d later below same = pick (below-or-not t s)
+pub rest-compared : (lies : Bool) (all : List Marked) (meetings : List Meeting) (fs : List Filed) (r s : ℕ) (e : Filed) (limit : ℕ) → r < length fs → s < length fs → AreRising fs → All (IsFileOf lies all) fs → limit ≡ limit_of (get_or fs r e) → nat_le (get_or fs s e).key limit ≡ false → ComparedUpTo all meetings fs r s → ComparedUpTo all meetings fs r (length fs)
+rest-compared lies all meetings fs r s e limit rin sin rising are is over so_far t d later below same = pick (below-or-not t s)
   where
-    pick : (t < s) ⊎ (s ≤ t) → AreCompared all pairs (get_or fs r d).extent.index (get_or fs t d).extent.index
+    pick : (t < s) ⊎ (s ≤ t) → AreCompared all meetings (get_or fs r d).extent.index (get_or fs t d).extent.index
     pick (inl h) = so_far t d later h same
     pick (inr h) =
         let f = get_or fs r d in
@@ -162,21 +168,21 @@ rest-compared lies all pairs fs r s e limit rin sin rising are is over so_far t 
         let here : limit_of f < (get_or fs s d).key = less-by (get_or fs s e).key (get_or fs s d).key limit (limit_of f) (not-le (get_or fs s e).key limit over) low key in
         let behind : limit_of f < g.key = later-key (limit_of f) (get_or fs s d).key g.key here (rising s t d h below) in
         let far = far-behind f g (are t d below).is same behind in
-        along-compared lies all pairs f.extent g.extent (are r d rin).extent (are t d below).extent
+        along-compared lies all meetings f.extent g.extent (are r d rin).extent (are t d below).extent
         (no-second (int_le f.extent.along.low g.extent.along.high) (int_le g.extent.along.low f.extent.along.high) far)
 
-pub all-behind : (all : List Marked) (pairs : List Pair) (fs : List Filed) (r s : ℕ) → length fs ≤ s → ComparedUpTo all pairs fs r s → ComparedUpTo all pairs fs r (length fs)
-all-behind all pairs fs r s over so_far t d later below same = so_far t d later (omega arith) same
+pub all-behind : (all : List Marked) (meetings : List Meeting) (fs : List Filed) (r s : ℕ) → length fs ≤ s → ComparedUpTo all meetings fs r s → ComparedUpTo all meetings fs r (length fs)
+all-behind all meetings fs r s over so_far t d later below same = so_far t d later (omega arith) same
 
-pub more-below : (all : List Marked) (old new : List Pair) (fs : List Filed) (r : ℕ) → Keeps old new → ComparedBelow all old fs r → ComparedUpTo all new fs r (length fs) → ComparedBelow all new fs (r + 1)
+pub more-below : (all : List Marked) (old new : List Meeting) (fs : List Filed) (r : ℕ) → Keeps old new → ComparedBelow all old fs r → ComparedUpTo all new fs r (length fs) → ComparedBelow all new fs (r + 1)
 more-below all old new fs r kept so_far here q lt = pick (below-or-last q r lt)
   where
     pick : (q < r) ⊎ (q ≡ r) → ComparedUpTo all new fs q (length fs)
     pick (inl h) = λ t d later below same. still-compared all old new (get_or fs q d).extent.index (get_or fs t d).extent.index kept (so_far q h t d later below same)
     pick (inr h) = subst (λ (k : ℕ). ComparedUpTo all new fs k (length fs)) (sym h) here
 
-pub all-below : (all : List Marked) (pairs : List Pair) (fs : List Filed) (r : ℕ) → length fs ≤ r → ComparedBelow all pairs fs r → ComparedBelow all pairs fs (length fs)
-all-below all pairs fs r over so_far q lt = so_far q (omega arith)
+pub all-below : (all : List Marked) (meetings : List Meeting) (fs : List Filed) (r : ℕ) → length fs ≤ r → ComparedBelow all meetings fs r → ComparedBelow all meetings fs (length fs)
+all-below all meetings fs r over so_far q lt = so_far q (omega arith)
 
 -- the boxes of all edges, each filed in the columns that it touches
 
@@ -194,12 +200,12 @@ one-column x old new first column kept so_far here c after lt = pick (below-or-l
     pick (inl h) = kept (filed_at c x) (so_far c after h)
     pick (inr h) = subst (λ (k : ℕ). Contains new (filed_at k x)) (sym h) here
 
-in-front : {X : Type 0} (f : X) (xs ys : List X) → In f xs → In f (xs ++ ys)
+pub in-front : {X : Type 0} (f : X) (xs ys : List X) → In f xs → In f (xs ++ ys)
 in-front f [] ys h = elim h [ ]
 in-front f (x ∷ xs) ys (inl is) = inl is
 in-front f (x ∷ xs) ys (inr h) = inr (in-front f xs ys h)
 
-in-last : {X : Type 0} (f : X) (xs : List X) → In f (xs ++ f ∷ [])
+pub in-last : {X : Type 0} (f : X) (xs : List X) → In f (xs ++ f ∷ [])
 in-last f [] = inl refl
 in-last f (x ∷ xs) = inr (in-last f xs)
 
@@ -213,38 +219,6 @@ pub pushed-are : (lies : Bool) (all : List Marked) (old new : List Filed) (f : F
 pushed-are lies all old new f is h are =
     subst (λ (fs : List Filed). All (IsFileOf lies all) fs) (sym is)
     (All-append (IsFileOf lies all) old (f ∷ []) are (All-cons (IsFileOf lies all) f [] h (All-nil (IsFileOf lies all))))
-
--- a pair that is listed both ways round
-
-abbrev with-both : List Pair → Pair → Pair → List Pair
-with-both ps p q = (ps ++ p ∷ []) ++ q ∷ []
-
-first-in : (ps : List Pair) (p q : Pair) → Contains (with-both ps p q) p
-first-in ps p q = contains-in p (with-both ps p q) (in-front p (ps ++ p ∷ []) (q ∷ []) (in-last p ps))
-
-last-in : (ps : List Pair) (p q : Pair) → Contains (with-both ps p q) q
-last-in ps p q = contains-in q (with-both ps p q) (in-last q (ps ++ p ∷ []))
-
-pub pair-kept : (old new : List Pair) (p q : Pair) → new ≡ (old ++ p ∷ []) ++ q ∷ [] → Keeps old new
-pair-kept old new p q is g h =
-    subst (λ (ps : List Pair). Contains ps g) (sym is)
-    (contains-in g (with-both old p q) (in-front g (old ++ p ∷ []) (q ∷ []) (in-front g old (p ∷ []) (in-contained g old h))))
-
-pub pair-compared : (all : List Marked) (old new : List Pair) (i j : ℕ) → new ≡ (old ++ record { first = i; second = j } ∷ []) ++ record { first = j; second = i } ∷ [] → AreCompared all new i j
-pair-compared all old new i j is =
-    let p : Pair = record { first = i; second = j } in
-    let q : Pair = record { first = j; second = i } in
-    record {
-      forth = inl (subst (λ (ps : List Pair). Contains ps p) (sym is) (first-in old p q));
-      back = inl (subst (λ (ps : List Pair). Contains ps q) (sym is) (last-in old p q));
-    }
-
-pub pair-inside : (n : ℕ) (old new : List Pair) (p q : Pair) → new ≡ (old ++ p ∷ []) ++ q ∷ [] → IsInside n p → IsInside n q → All (IsInside n) old → All (IsInside n) new
-pair-inside n old new p q is pin qin are =
-    subst (λ (ps : List Pair). All (IsInside n) ps) (sym is)
-    (All-append (IsInside n) (old ++ p ∷ []) (q ∷ [])
-    (All-append (IsInside n) old (p ∷ []) are (All-cons (IsInside n) p [] pin (All-nil (IsInside n))))
-    (All-cons (IsInside n) q [] qin (All-nil (IsInside n))))
 
 pub moved-filed : (lies : Bool) (width : ℕ) (all : List Marked) (old new : List Filed) → IsPermutation old new → AreFiled lies width all old → AreFiled lies width all new
 moved-filed lies width all old new moved h = record {
@@ -263,38 +237,37 @@ order (suc p) (suc q) = one-up (order p q)
     one-up (inr (inl h)) = inr (inl (omega arith))
     one-up (inr (inr h)) = inr (inr (ap suc h))
 
-by-order : (all : List Marked) (pairs : List Pair) (fs : List Filed) (d : Filed) (i j p q : ℕ) → p < length fs → q < length fs → (get_or fs p d).extent.index ≡ i → (get_or fs q d).extent.index ≡ j → (get_or fs p d).column ≡ (get_or fs q d).column → ComparedBelow all pairs fs (length fs) → i ≢ j → (p < q) ⊎ ((q < p) ⊎ (p ≡ q)) → IsPaired all pairs i j
-by-order all pairs fs d i j p q pin qin pis qis same all' other (inl h) =
-    subst (λ (k : ℕ). IsPaired all pairs k j) pis (subst (λ (k : ℕ). IsPaired all pairs (get_or fs p d).extent.index k) qis (all' p pin q d h qin same).forth)
-by-order all pairs fs d i j p q pin qin pis qis same all' other (inr (inl h)) =
-    subst (λ (k : ℕ). IsPaired all pairs k j) pis (subst (λ (k : ℕ). IsPaired all pairs (get_or fs p d).extent.index k) qis (all' q qin p d h pin (sym same)).back)
-by-order all pairs fs d i j p q pin qin pis qis same all' other (inr (inr h)) =
+by-order : (all : List Marked) (meetings : List Meeting) (fs : List Filed) (d : Filed) (i j p q : ℕ) → p < length fs → q < length fs → (get_or fs p d).extent.index ≡ i → (get_or fs q d).extent.index ≡ j → (get_or fs p d).column ≡ (get_or fs q d).column → ComparedBelow all meetings fs (length fs) → i ≢ j → (p < q) ⊎ ((q < p) ⊎ (p ≡ q)) → IsListed all meetings i j
+by-order all meetings fs d i j p q pin qin pis qis same all' other (inl h) =
+    subst (λ (k : ℕ). IsListed all meetings k j) pis (subst (λ (k : ℕ). IsListed all meetings (get_or fs p d).extent.index k) qis (all' p pin q d h qin same).forth)
+by-order all meetings fs d i j p q pin qin pis qis same all' other (inr (inl h)) =
+    subst (λ (k : ℕ). IsListed all meetings k j) pis (subst (λ (k : ℕ). IsListed all meetings (get_or fs p d).extent.index k) qis (all' q qin p d h pin (sym same)).back)
+by-order all meetings fs d i j p q pin qin pis qis same all' other (inr (inr h)) =
     absurd (other (sym pis ∙ (ap (λ (k : ℕ). (get_or fs k d).extent.index) h ∙ qis)))
 
-in-column : (all : List Marked) (pairs : List Pair) (fs : List Filed) (c : ℕ) (x y : Extent) → Contains fs (filed_at c x) → Contains fs (filed_at c y) → ComparedBelow all pairs fs (length fs) → x.index ≢ y.index → IsPaired all pairs x.index y.index
-in-column all pairs fs c x y p q all' other =
+in-column : (all : List Marked) (meetings : List Meeting) (fs : List Filed) (c : ℕ) (x y : Extent) → Contains fs (filed_at c x) → Contains fs (filed_at c y) → ComparedBelow all meetings fs (length fs) → x.index ≢ y.index → IsListed all meetings x.index y.index
+in-column all meetings fs c x y p q all' other =
     let d = filed_at c x in
     let pis : get_or fs p.0 d ≡ filed_at c x = p.2 in
     let qis : get_or fs q.0 d ≡ filed_at c y = any-default fs q.0 d (filed_at c y) q.1 ∙ q.2 in
-    by-order all pairs fs d x.index y.index p.0 q.0 p.1 q.1
+    by-order all meetings fs d x.index y.index p.0 q.0 p.1 q.1
     (ap (λ (f : Filed). f.extent.index) pis) (ap (λ (f : Filed). f.extent.index) qis)
     (ap (λ (f : Filed). f.column) pis ∙ sym (ap (λ (f : Filed). f.column) qis)) all' other (order p.0 q.0)
 
-paired-by : (lies : Bool) (width : ℕ) (all : List Marked) (pairs : List Pair) (fs : List Filed) (i j : ℕ) (b : Bool) → AreFiled lies width all fs → ComparedBelow all pairs fs (length fs) → i < length all → j < length all → i ≢ j → touches (extent_of lies i (get_or all i nothing).edge).across (extent_of lies j (get_or all j nothing).edge).across ≡ b → IsPaired all pairs i j
-paired-by lies width all pairs fs i j true files all' iin jin other h =
+listed-by : (lies : Bool) (width : ℕ) (all : List Marked) (meetings : List Meeting) (fs : List Filed) (i j : ℕ) (b : Bool) → AreFiled lies width all fs → ComparedBelow all meetings fs (length fs) → i < length all → j < length all → i ≢ j → touches (extent_of lies i (get_or all i nothing).edge).across (extent_of lies j (get_or all j nothing).edge).across ≡ b → IsListed all meetings i j
+listed-by lies width all meetings fs i j true files all' iin jin other h =
     let e = (get_or all i nothing).edge in
     let f = (get_or all j nothing).edge in
     let c = common width lies i j e f h in
-    in-column all pairs fs c.at (extent_of lies i e) (extent_of lies j f) (files.each i iin c.at c.after_first c.before_first) (files.each j jin c.at c.after_second c.before_second) all' other
-paired-by lies width all pairs fs i j false files all' iin jin other h =
-    (across-compared lies all pairs (extent_of lies i (get_or all i nothing).edge) (extent_of lies j (get_or all j nothing).edge) (record { within = iin; is = refl }) (record { within = jin; is = refl }) h).forth
+    in-column all meetings fs c.at (extent_of lies i e) (extent_of lies j f) (files.each i iin c.at c.after_first c.before_first) (files.each j jin c.at c.after_second c.before_second) all' other
+listed-by lies width all meetings fs i j false files all' iin jin other h =
+    (across-compared lies all meetings (extent_of lies i (get_or all i nothing).edge) (extent_of lies j (get_or all j nothing).edge) (record { within = iin; is = refl }) (record { within = jin; is = refl }) h).forth
 
 -- with all boxes compared, all edges are
-pub are-paired : (lies : Bool) (width : ℕ) (all : List Marked) (pairs : List Pair) (fs : List Filed) → AreFiled lies width all fs → ComparedBelow all pairs fs (length fs) → ArePaired all pairs
-are-paired lies width all pairs fs files all' i j iin jin other =
-    paired-by lies width all pairs fs i j (touches (extent_of lies i (get_or all i nothing).edge).across (extent_of lies j (get_or all j nothing).edge).across) files all' iin jin other refl
+pub are-listed : (lies : Bool) (width : ℕ) (all : List Marked) (meetings : List Meeting) (fs : List Filed) → AreFiled lies width all fs → ComparedBelow all meetings fs (length fs) → AreListed all meetings
+are-listed lies width all meetings fs files all' i j iin jin other =
+    listed-by lies width all meetings fs i j (touches (extent_of lies i (get_or all i nothing).edge).across (extent_of lies j (get_or all j nothing).edge).across) files all' iin jin other refl
 
--- in another order they are the same pairs
-
-pub moved-paired : (all : List Marked) (old new : List Pair) → IsPermutation old new → ArePaired all old → ArePaired all new
-moved-paired all old new moved h i j iin jin other = still-paired all old new i j (λ p there. Contains-permutation old new p moved there) (h i j iin jin other)
+-- in another order they are the same meetings
+pub moved-listed : (all : List Marked) (old new : List Meeting) → IsPermutation old new → AreListed all old → AreListed all new
+moved-listed all old new moved h i j iin jin other = still-listed all old new i j (λ m there. Contains-permutation old new m moved there) (h i j iin jin other)

@@ -1,50 +1,43 @@
--- Edges read at their indices, and the stops gathered from them.
+-- The stops gathered from all edges, or from the meetings of an edge.
 use Rattle.std.proofs.Common.{◌≡◌, ◌≢◌, ◌≤◌, ◌<◌, ◌+◌, ◌-◌, ℕ, zero, suc, List, [], ◌∷◌, ◌++◌, length, get_or, take, drop, map, inl, inr, ◌⊎◌, arith, refl, sym, ap, ◌∙◌, subst, append_assoc, drop-cons, length-drop}
 use Rattle.std.specs.List.{All, AllByRecursion, Contains}
-use Rattle.std.proofs.lemmas.List.Elements.{All-from_recursion, recursion_from_All, All-take, All-drop}
+use Rattle.std.proofs.lemmas.List.Elements.{All-from_recursion}
 use Rattle.std.proofs.lemmas.List.{get_or-take, get_or-drop, length-take, drop_all}
 use Rattle.slice_base.specs.declared.points.Pt.{Pt}
 use Rattle.slice_base.specs.declared.points.Edge.{Edge}
 use Rattle.edge_cut.specs.declared.stops.Stop.{Stop}
 use Rattle.edge_cut.specs.declared.passes.Marked.{Marked}
-use Rattle.edge_cut.specs.declared.pairs.Pair.{Pair}
+use Rattle.edge_cut.specs.declared.meetings.Meeting.{Meeting}
 use Rattle.edge_cut.specs.Meeting.{meeting_of}
 use Rattle.edge_cut.specs.Stops.{stop_at, stops_of}
-use Rattle.edge_cut.specs.Ordered.{IsRising, IsEnd, IsStopPoint, IsStop, MeetsAtEnds, IsEnough}
-use Rattle.edge_cut.specs.Inner.Indices.{nothing, no_pair, seconds}
-use Rattle.edge_cut.specs.Inner.Pairs.{IsInside, IsPaired, ArePaired, FirstFrom, HasAllOf, ByFirst}
-use Rattle.edge_cut.specs.Inner.Gathered.{meeting_stops, gathered}
+use Rattle.edge_cut.specs.Ordered.{IsRising, IsEnd, MeetsAt, IsStopPoint, IsStop, MeetsAtEnds}
+use Rattle.edge_cut.specs.Inner.Indices.{nothing}
+use Rattle.edge_cut.specs.Inner.Meetings.{meeting_at, AreListed, AreMeetings, ByIndex, IndexFrom, IsGroup, TellAll}
+use Rattle.edge_cut.specs.Inner.Gathered.{meeting_stops, gathered, gathered_at}
 use Rattle.edge_cut.proofs.Ordered.{In, in-contained, contains-in}
 use Rattle.edge_cut.proofs.OneList.{stops_of-one}
 use Rattle.edge_cut.proofs.Compared.{any-default}
 use Rattle.edge_cut.proofs.Reached.{meeting_of-itself}
-use Rattle.edge_cut.proofs.Enough.{stops_of-enough}
 
--- one index more
-pub gather-step : (e : Edge) (all : List Marked) (some : List Pair) (k : ℕ) (old new whole : List Stop) → k < length some → new ≡ old ++ map (stop_at e) (meeting_of e (get_or all (get_or some k no_pair).second nothing).edge) → old ++ meeting_stops e (seconds all (drop k some)) ≡ whole → new ++ meeting_stops e (seconds all (drop (k + 1) some)) ≡ whole
-gather-step e all some k old new whole below adds so_far =
-    let here = map (stop_at e) (meeting_of e (get_or all (get_or some k no_pair).second nothing).edge) in
-    let rest = meeting_stops e (seconds all (drop (suc k) some)) in
+-- one edge more
+pub gather-step : (e : Edge) (all : List Marked) (k : ℕ) (old new whole : List Stop) → k < length all → new ≡ old ++ map (stop_at e) (meeting_of e (get_or all k nothing).edge) → old ++ meeting_stops e (drop k all) ≡ whole → new ++ meeting_stops e (drop (k + 1) all) ≡ whole
+gather-step e all k old new whole below adds so_far =
+    let here = map (stop_at e) (meeting_of e (get_or all k nothing).edge) in
+    let rest = meeting_stops e (drop (suc k) all) in
     let next : k + 1 ≡ suc k = omega arith in
-    ap (λ (n : ℕ). new ++ meeting_stops e (seconds all (drop n some))) next
+    ap (λ (n : ℕ). new ++ meeting_stops e (drop n all)) next
     ∙ (ap (λ (ss : List Stop). ss ++ rest) adds
     ∙ (append_assoc old here rest
-    ∙ (ap (λ (ns : List Pair). old ++ meeting_stops e (seconds all ns)) (sym (drop-cons some k no_pair below)) ∙ so_far)))
-
-dropped : (n : ℕ) (ns : List Pair) → length ns ≤ n → drop n ns ≡ []
-dropped zero [] h = refl
-dropped zero (m ∷ ns) h = absurd (omega arith)
-dropped (suc n) [] h = refl
-dropped (suc n) (m ∷ ns) h = dropped n ns (omega arith)
+    ∙ (ap (λ (ns : List Marked). old ++ meeting_stops e ns) (sym (drop-cons all k nothing below)) ∙ so_far)))
 
 append-none : (ss : List Stop) → ss ++ [] ≡ ss
 append-none [] = refl
 append-none (s ∷ ss) = ap (λ (ts : List Stop). s ∷ ts) (append-none ss)
 
--- after the last index
-pub gather-end : (e : Edge) (all : List Marked) (some : List Pair) (k : ℕ) (ss whole : List Stop) → length some ≤ k → ss ++ meeting_stops e (seconds all (drop k some)) ≡ whole → ss ≡ whole
-gather-end e all some k ss whole over so_far =
-    sym (append-none ss) ∙ (ap (λ (ns : List Pair). ss ++ meeting_stops e (seconds all ns)) (sym (dropped k some over)) ∙ so_far)
+-- after the last edge
+pub gather-end : (e : Edge) (all : List Marked) (k : ℕ) (ss whole : List Stop) → length all ≤ k → ss ++ meeting_stops e (drop k all) ≡ whole → ss ≡ whole
+gather-end e all k ss whole over so_far =
+    sym (append-none ss) ∙ (ap (λ (ns : List Marked). ss ++ meeting_stops e ns) (sym (drop_all k all over)) ∙ so_far)
 
 -- what is gathered
 
@@ -135,29 +128,47 @@ ordered-are e ms ss rising kept only = stops_of-one e ms ss (record {
   reached = λ p due. kept (stop_at e p) (contains-in (stop_at e p) (gathered e ms) (in-gathered e ms p due));
 })
 
--- what is read at indices of the list stands in it
-
-contains-at : (all : List Marked) (i : ℕ) → i < length all → In (get_or all i nothing) all
-contains-at [] i below = absurd (omega arith)
-contains-at (m ∷ ms) zero below = inl refl
-contains-at (m ∷ ms) (suc i) below = inr (contains-at ms i (omega arith))
-
-read-in : (all : List Marked) (some : List Pair) (m : Marked) → AllByRecursion (IsInside (length all)) some → In m (seconds all some) → In m all
-read-in all [] m below h = elim h [ ]
-read-in all (p ∷ ps) m below (inl is') = subst (λ (n : Marked). In n all) is' (contains-at all p.second below.0.second_in)
-read-in all (p ∷ ps) m below (inr h) = read-in all ps m below.1 h
-
-pub read-within : (all : List Marked) (some : List Pair) → All (IsInside (length all)) some → (m : Marked) → Contains (seconds all some) m → Contains all m
-read-within all some below m h =
-    contains-in m all (read-in all some m (recursion_from_All (IsInside (length all)) some below) (in-contained m (seconds all some) h))
-
--- the stops of e by enough indices
-pub stops-by : (e : Edge) (all : List Marked) (some : List Pair) (found ss : List Stop) → All (IsInside (length all)) some → IsEnough e (seconds all some) all → found ≡ gathered e (seconds all some) → IsRising ss → ((s : Stop) → Contains found s → Contains ss s) → ((s : Stop) → Contains ss s → Contains found s) → ss ≡ stops_of e all
-stops-by e all some found ss below enough is rising kept only =
-    ordered-are e (seconds all some) ss rising
+-- the stops of e by all edges
+pub stops-by : (e : Edge) (all : List Marked) (found ss : List Stop) → found ≡ gathered e all → IsRising ss → ((s : Stop) → Contains found s → Contains ss s) → ((s : Stop) → Contains ss s → Contains found s) → ss ≡ stops_of e all
+stops-by e all found ss is rising kept only =
+    ordered-are e all ss rising
     (λ s h. kept s (subst (λ (ts : List Stop). Contains ts s) (sym is) h))
     (λ s h. subst (λ (ts : List Stop). Contains ts s) is (only s h))
-    ∙ stops_of-enough e (seconds all some) all (read-within all some below) enough
+
+-- the stops of e by its meetings
+
+in-met : (e : Edge) (some : List Meeting) (m : Meeting) → In m some → In (stop_at e m.at) (map (λ (k : Meeting). stop_at e k.at) some)
+in-met e [] m h = elim h [ ]
+in-met e (n ∷ ns) m (inl is) = inl (ap (λ (k : Meeting). stop_at e k.at) is)
+in-met e (n ∷ ns) m (inr h) = inr (in-met e ns m h)
+
+in-gathered_at : (e : Edge) (some : List Meeting) (index : ℕ) (p : Pt) → Contains some (meeting_at index p) ⊎ IsEnd e p → In (stop_at e p) (gathered_at e some)
+in-gathered_at e some index p (inl h) = inr (inr (in-met e some (meeting_at index p) (in-contained (meeting_at index p) some h)))
+in-gathered_at e some index p (inr (inl is)) = inl (ap (λ (q : Pt). stop_at e q) (sym is))
+in-gathered_at e some index p (inr (inr is)) = inr (inl (ap (λ (q : Pt). stop_at e q) (sym is)))
+
+is-met : (e : Edge) (all : List Marked) (s : Stop) (some : List Meeting) → ((m : Meeting) → In m some → MeetsAt e all m.at) → In s (map (λ (k : Meeting). stop_at e k.at) some) → IsStop e all s
+is-met e all s [] f h = elim h [ ]
+is-met e all s (m ∷ ms) f (inl is) = placed e all m.at s (inr (f m (inl refl))) (sym is)
+is-met e all s (m ∷ ms) f (inr h) = is-met e all s ms (λ n in'. f n (inr in')) h
+
+is-gathered_at : (e : Edge) (all : List Marked) (some : List Meeting) (s : Stop) → ((m : Meeting) → In m some → MeetsAt e all m.at) → In s (gathered_at e some) → IsStop e all s
+is-gathered_at e all some s f (inl is) = placed e all e.from s (inl (inl refl)) (sym is)
+is-gathered_at e all some s f (inr (inl is)) = placed e all e.to s (inl (inr refl)) (sym is)
+is-gathered_at e all some s f (inr (inr h)) = is-met e all s some f h
+
+due-at : (e : Edge) (all : List Marked) (index : ℕ) (some : List Meeting) (p : Pt) → TellAll e all index some → IsStopPoint e all p → Contains some (meeting_at index p) ⊎ IsEnd e p
+due-at e all index some p told (inl end) = inr end
+due-at e all index some p told (inr met) = told.each p met
+
+pub stops-told : (e : Edge) (all : List Marked) (index : ℕ) (some : List Meeting) (found ss : List Stop) → TellAll e all index some → found ≡ gathered_at e some → IsRising ss → ((s : Stop) → Contains found s → Contains ss s) → ((s : Stop) → Contains ss s → Contains found s) → ss ≡ stops_of e all
+stops-told e all index some found ss told is rising kept only = stops_of-one e all ss (record {
+  rising = rising;
+  only = each (IsStop e all) ss (λ s h. is-gathered_at e all some s (λ m in'. told.only m (contains-in m some in'))
+      (in-contained s (gathered_at e some) (subst (λ (ts : List Stop). Contains ts s) is (only s (contains-in s ss h)))));
+  reached = λ p due. kept (stop_at e p) (subst (λ (ts : List Stop). Contains ts (stop_at e p)) (sym is)
+      (contains-in (stop_at e p) (gathered_at e some) (in-gathered_at e some index p (due-at e all index some p told due))));
+})
 
 -- an edge and the others
 
@@ -169,11 +180,6 @@ meets-itself m p h = each-in (meeting_of m.edge m.edge) (meeting_of-itself m.edg
     each-in (q ∷ qs) all p (inl is) = subst (λ (r : Pt). IsEnd m.edge r) is all.0
     each-in (q ∷ qs) all p (inr h) = each-in qs all.1 p h
 
-in-seconds : (all : List Marked) (some : List Pair) (p : Pair) → In p some → In (get_or all p.second nothing) (seconds all some)
-in-seconds all [] p h = elim h [ ]
-in-seconds all (q ∷ qs) p (inl is) = inl (ap (λ (r : Pair). get_or all r.second nothing) is)
-in-seconds all (q ∷ qs) p (inr h) = inr (in-seconds all qs p h)
-
 same-or-not : (m n : ℕ) → (m ≡ n) ⊎ (m ≢ n)
 same-or-not zero zero = inl refl
 same-or-not zero (suc n) = inr (λ e. omega arith)
@@ -184,24 +190,31 @@ same-or-not (suc m) (suc n) = one-up (same-or-not m n)
     one-up (inl e) = inl (ap suc e)
     one-up (inr f) = inr (λ e. f (omega arith))
 
-by-pair : (all : List Marked) (pairs some : List Pair) (index j : ℕ) (m : Marked) → HasAllOf pairs some index → get_or all j nothing ≡ m → IsPaired all pairs index j → Contains (seconds all some) m ⊎ MeetsAtEnds (get_or all index nothing).edge m
-by-pair all pairs some index j m has at (inl h) =
-    let p : Pair = record { first = index; second = j } in
-    inl (subst (λ (n : Marked). Contains (seconds all some) n) at (contains-in (get_or all j nothing) (seconds all some) (in-seconds all some p (in-contained p some (has p h refl)))))
-by-pair all pairs some index j m has at (inr h) = inr (subst (λ (n : Marked). MeetsAtEnds (get_or all index nothing).edge n) at h)
+in-group : (meetings some : List Meeting) (index : ℕ) (e : Edge) (p : Pt) → IsGroup meetings some index → Contains meetings (meeting_at index p) ⊎ IsEnd e p → Contains some (meeting_at index p) ⊎ IsEnd e p
+in-group meetings some index e p group (inl h) = inl (group.each (meeting_at index p) h refl)
+in-group meetings some index e p group (inr end) = inr end
 
-by-index : (all : List Marked) (pairs some : List Pair) (index j : ℕ) (m : Marked) → index < length all → j < length all → ArePaired all pairs → HasAllOf pairs some index → get_or all j nothing ≡ m → (index ≡ j) ⊎ (index ≢ j) → Contains (seconds all some) m ⊎ MeetsAtEnds (get_or all index nothing).edge m
-by-index all pairs some index j m pin jin paired has at (inl same) =
-    let is : get_or all index nothing ≡ m = ap (λ (k : ℕ). get_or all k nothing) same ∙ at in
-    inr (subst (λ (n : Marked). MeetsAtEnds (get_or all index nothing).edge n) is (meets-itself (get_or all index nothing)))
-by-index all pairs some index j m pin jin paired has at (inr other) = by-pair all pairs some index j m has at (paired index j pin jin other)
+by-index : (all : List Marked) (meetings : List Meeting) (index j : ℕ) (m : Marked) (p : Pt) → index < length all → j < length all → AreListed all meetings → get_or all j nothing ≡ m → Contains (meeting_of (get_or all index nothing).edge m.edge) p → (index ≡ j) ⊎ (index ≢ j) → Contains meetings (meeting_at index p) ⊎ IsEnd (get_or all index nothing).edge p
+by-index all meetings index j m p pin jin listed at meets (inl same) =
+    let is : m ≡ get_or all index nothing = sym (ap (λ (k : ℕ). get_or all k nothing) same ∙ at) in
+    let e = (get_or all index nothing).edge in
+    inr (meets-itself (get_or all index nothing) p (subst (λ (n : Marked). Contains (meeting_of e n.edge) p) is meets))
+by-index all meetings index j m p pin jin listed at meets (inr other) =
+    let e = (get_or all index nothing).edge in
+    listed index j pin jin other p (subst (λ (n : Marked). Contains (meeting_of e n.edge) p) (sym at) meets)
 
--- the pairs of an edge are enough
-pub pairs-enough : (all : List Marked) (pairs some : List Pair) (index : ℕ) → index < length all → ArePaired all pairs → HasAllOf pairs some index → IsEnough (get_or all index nothing).edge (seconds all some) all
-pairs-enough all pairs some index pin paired has m h =
-    by-index all pairs some index h.0 m pin h.1 paired has (any-default all h.0 nothing m h.1 ∙ h.2) (same-or-not index h.0)
+met-own : (all : List Marked) (i j : ℕ) (p : Pt) → i ≡ j → MeetsAt (get_or all i nothing).edge all p → MeetsAt (get_or all j nothing).edge all p
+met-own all i j p same h = subst (λ (k : ℕ). MeetsAt (get_or all k nothing).edge all p) same h
 
--- the pairs of an edge stand together
+-- the meetings of an edge tell all of its stops
+pub group-tells : (all : List Marked) (meetings some : List Meeting) (index : ℕ) → index < length all → AreListed all meetings → AreMeetings all meetings → IsGroup meetings some index → TellAll (get_or all index nothing).edge all index some
+group-tells all meetings some index pin listed are group = record {
+  each = λ p h. in-group meetings some index (get_or all index nothing).edge p group
+      (by-index all meetings index h.listed.0 h.met p pin h.listed.1 listed (any-default all h.listed.0 nothing h.met h.listed.1 ∙ h.listed.2) h.meets (same-or-not index h.listed.0));
+  only = λ m h. let own = group.only m h in met-own all m.index index m.at own.1 (are m own.0);
+}
+
+-- the meetings of an edge stand together
 
 below-or-not : (k i : ℕ) → (k < i) ⊎ (i ≤ k)
 below-or-not k zero = inr (omega arith)
@@ -213,32 +226,62 @@ below-or-not (suc k) (suc i) = one-up (below-or-not k i)
     one-up (inr h) = inr (omega arith)
 
 -- where a part of a list has an item of the whole
-in-part : (pairs : List Pair) (from end k : ℕ) (p : Pair) → from ≤ k → k < end → end ≤ length pairs → get_or pairs k p ≡ p → Contains (take (end - from) (drop from pairs)) p
-in-part pairs from end k p le lt within is =
+in-part : (ms : List Meeting) (from end k : ℕ) (m : Meeting) → from ≤ k → k < end → end ≤ length ms → get_or ms k m ≡ m → Contains (take (end - from) (drop from ms)) m
+in-part ms from end k m le lt within is =
     let i = k - from in
     let e : from + i ≡ k = omega arith in
-    let len = length-drop from pairs in
-    let few = length-take (end - from) (drop from pairs) in
-    (i, omega arith, get_or-take (end - from) (drop from pairs) i p (omega arith) ∙ (get_or-drop from pairs i p ∙ (ap (λ (n : ℕ). get_or pairs n p) e ∙ is)))
+    let len = length-drop from ms in
+    let few = length-take (end - from) (drop from ms) in
+    (i, omega arith, get_or-take (end - from) (drop from ms) i m (omega arith) ∙ (get_or-drop from ms i m ∙ (ap (λ (n : ℕ). get_or ms n m) e ∙ is)))
 
-pub group-has : (pairs : List Pair) (from end index : ℕ) → end ≤ length pairs → FirstFrom pairs from index → FirstFrom pairs end (index + 1) → HasAllOf pairs (take (end - from) (drop from pairs)) index
-group-has pairs from end index within lower upper p h is = pick (below-or-not h.0 from) (below-or-not h.0 end)
+-- where the whole has an item of a part
+pub record IsPart (ms : List Meeting) (from end : ℕ) (m : Meeting) : Type 0 where
+  pub at : ℕ
+  pub after : from ≤ at
+  pub before : at < end
+  pub within : at < length ms
+  pub is : get_or ms at m ≡ m
+
+of-part : (ms : List Meeting) (from end : ℕ) (m : Meeting) → from ≤ end → end ≤ length ms → Contains (take (end - from) (drop from ms)) m → IsPart ms from end m
+of-part ms from end m later within h =
+    let i = h.0 in
+    let len = length-drop from ms in
+    let few = length-take (end - from) (drop from ms) in
+    let below : i < end - from = let g = h.1 in omega arith in
+    record {
+      at = from + i;
+      after = omega arith;
+      before = omega arith;
+      within = omega arith;
+      is = sym (get_or-drop from ms i m) ∙ (sym (get_or-take (end - from) (drop from ms) i m below) ∙ h.2);
+    }
+
+pub group-is : (ms : List Meeting) (from end index : ℕ) → from ≤ end → end ≤ length ms → IndexFrom ms from index → IndexFrom ms end (index + 1) → IsGroup ms (take (end - from) (drop from ms)) index
+group-is ms from end index later within lower upper = record {
+  each = λ m h is. pick m h is (below-or-not h.0 from) (below-or-not h.0 end);
+  only = λ m h.
+      let p = of-part ms from end m later within h in
+      let g = lower.from p.at m p.after p.within in
+      let k = upper.before p.at m p.before p.within in
+      let own : (get_or ms p.at m).index ≡ m.index = ap (λ (n : Meeting). n.index) p.is in
+      ((p.at, p.within, p.is), omega arith);
+}
   where
-    first : (get_or pairs h.0 p).first ≡ index
-    first = ap (λ (q : Pair). q.first) h.2 ∙ is
-
-    pick : (h.0 < from) ⊎ (from ≤ h.0) → (h.0 < end) ⊎ (end ≤ h.0) → Contains (take (end - from) (drop from pairs)) p
-    pick (inl early) other = let g = lower.before h.0 p early h.1 in let f = first in absurd (omega arith)
-    pick (inr late) (inr past) = let g = upper.from h.0 p past h.1 in let f = first in absurd (omega arith)
-    pick (inr late) (inl here) = in-part pairs from end h.0 p late here within h.2
-
-pub part-inside : (n : ℕ) (pairs : List Pair) (from end : ℕ) → All (IsInside n) pairs → All (IsInside n) (take (end - from) (drop from pairs))
-part-inside n pairs from end h = All-take (IsInside n) (end - from) (drop from pairs) (All-drop (IsInside n) from pairs h)
+    pick : (m : Meeting) → (h : Contains ms m) → m.index ≡ index → (h.0 < from) ⊎ (from ≤ h.0) → (h.0 < end) ⊎ (end ≤ h.0) → Contains (take (end - from) (drop from ms)) m
+    pick m h is (inl early) other =
+        let g = lower.before h.0 m early h.1 in
+        let f : (get_or ms h.0 m).index ≡ index = ap (λ (n : Meeting). n.index) h.2 ∙ is in
+        absurd (omega arith)
+    pick m h is (inr late) (inr past) =
+        let g = upper.from h.0 m past h.1 in
+        let f : (get_or ms h.0 m).index ≡ index = ap (λ (n : Meeting). n.index) h.2 ∙ is in
+        absurd (omega arith)
+    pick m h is (inr late) (inl here) = in-part ms from end h.0 m late here within h.2
 
 -- where a group ends
 
-pub group-from : (pairs : List Pair) (from end first : ℕ) → FirstFrom pairs from first → ByFirst pairs → from ≤ end → ((j : ℕ) (d : Pair) → from ≤ j → j < end → (get_or pairs j d).first ≡ first) → ((d : Pair) → end < length pairs → (get_or pairs end d).first ≢ first) → FirstFrom pairs end (first + 1)
-group-from pairs from end first lower rising later same stops = record {
+pub group-from : (ms : List Meeting) (from end index : ℕ) → IndexFrom ms from index → ByIndex ms → from ≤ end → ((j : ℕ) (d : Meeting) → from ≤ j → j < end → (get_or ms j d).index ≡ index) → ((d : Meeting) → end < length ms → (get_or ms end d).index ≢ index) → IndexFrom ms end (index + 1)
+group-from ms from end index lower rising later same stops = record {
   before = λ j d lt below. before j d lt below (below-or-not j from);
   from = λ j d le below.
       let g = rising end j d le below in
@@ -247,34 +290,6 @@ group-from pairs from end first lower rising later same stops = record {
       omega arith;
 }
   where
-    before : (j : ℕ) (d : Pair) → j < end → j < length pairs → (j < from) ⊎ (from ≤ j) → (get_or pairs j d).first < first + 1
+    before : (j : ℕ) (d : Meeting) → j < end → j < length ms → (j < from) ⊎ (from ≤ j) → (get_or ms j d).index < index + 1
     before j d lt below (inl early) = let g = lower.before j d early below in omega arith
     before j d lt below (inr late) = let g = same j d late lt in omega arith
-
--- all edges, one by one
-
-map-more : (all : List Marked) (ps : List Pair) (p : Pair) → seconds all (ps ++ p ∷ []) ≡ seconds all ps ++ get_or all p.second nothing ∷ []
-map-more all [] p = refl
-map-more all (q ∷ qs) p = ap (λ (ms : List Marked). get_or all q.second nothing ∷ ms) (map-more all qs p)
-
-pub second-more : (all : List Marked) (old : List Pair) (index : ℕ) → index < length all → seconds all old ++ drop index all ≡ all → seconds all (old ++ (let p : Pair = record { first = index; second = index } in p) ∷ []) ++ drop (index + 1) all ≡ all
-second-more all old index below so_far =
-    let p : Pair = record { first = index; second = index } in
-    let m = get_or all index nothing in
-    let next : index + 1 ≡ suc index = omega arith in
-    ap (λ (n : ℕ). seconds all (old ++ p ∷ []) ++ drop n all) next
-    ∙ (ap (λ (ms : List Marked). ms ++ drop (suc index) all) (map-more all old p)
-    ∙ (append_assoc (seconds all old) (m ∷ []) (drop (suc index) all)
-    ∙ (ap (λ (ms : List Marked). seconds all old ++ ms) (sym (drop-cons all index nothing below)) ∙ so_far)))
-
-append-nothing : (ms : List Marked) → ms ++ [] ≡ ms
-append-nothing [] = refl
-append-nothing (m ∷ ms) = ap (λ (ns : List Marked). m ∷ ns) (append-nothing ms)
-
-pub second-all : (all : List Marked) (ps : List Pair) (index : ℕ) → length all ≤ index → seconds all ps ++ drop index all ≡ all → seconds all ps ≡ all
-second-all all ps index over so_far =
-    sym (append-nothing (seconds all ps)) ∙ (ap (λ (ms : List Marked). seconds all ps ++ ms) (sym (drop_all index all over)) ∙ so_far)
-
--- all edges are enough
-pub each-enough : (e : Edge) (all : List Marked) (ps qs : List Pair) → qs ≡ ps → seconds all ps ≡ all → IsEnough e (seconds all qs) all
-each-enough e all ps qs same is m h = inl (subst (λ (ms : List Marked). Contains ms m) (sym (ap (λ (rs : List Pair). seconds all rs) same ∙ is)) h)

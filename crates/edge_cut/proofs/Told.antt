@@ -7,13 +7,14 @@ use Rattle.slice_base.specs.declared.points.Pt.{Pt}
 use Rattle.slice_base.specs.declared.points.Edge.{Edge}
 use Rattle.edge_cut.specs.declared.stops.Stop.{Stop}
 use Rattle.edge_cut.specs.declared.passes.Marked.{Marked}
-use Rattle.edge_cut.specs.declared.pairs.Extent.{Extent}
-use Rattle.edge_cut.specs.declared.pairs.Pair.{Pair}
+use Rattle.edge_cut.specs.declared.columns.Extent.{Extent}
+use Rattle.edge_cut.specs.declared.meetings.Meeting.{Meeting}
 use Rattle.edge_cut.specs.Stops.{stop_at, stops_of}
 use Rattle.edge_cut.specs.Cut.{pieces_from, pieces_of}
 use Rattle.edge_cut.specs.Ordered.{IsEnd}
 use Rattle.edge_cut.specs.Inner.Indices.{nothing}
-use Rattle.edge_cut.specs.Inner.Pairs.{IsExtentOf, AreCompared}
+use Rattle.edge_cut.specs.Inner.Columns.{IsExtentOf}
+use Rattle.edge_cut.specs.Inner.Meetings.{AreCompared}
 use Rattle.edge_cut.specs.Inner.News.{AreEnds, IsWhole, AreTold, AreSettled}
 use Rattle.edge_cut.proofs.Ordered.{In, in-contained}
 use Rattle.edge_cut.proofs.Reached.{stops_of-all}
@@ -119,12 +120,12 @@ is-false : (b : Bool) → not b ≡ true → b ≡ false
 is-false true h = absurd (cc)
 is-false false h = refl
 
-pub old-compared : (lies : Bool) (all : List Marked) (news : List Bool) (pairs : List Pair) (a b : Extent) (r : Bool) → AreSettled all news → IsExtentOf lies all a → IsExtentOf lies all b → r ≡ (not (get_or news a.index false) && not (get_or news b.index false)) → r ≡ true → AreCompared all pairs a.index b.index
-old-compared lies all news pairs a b r settled ha hb is h =
+pub old-compared : (lies : Bool) (all : List Marked) (news : List Bool) (meetings : List Meeting) (a b : Extent) (r : Bool) → AreSettled all news → IsExtentOf lies all a → IsExtentOf lies all b → r ≡ (not (get_or news a.index false) && not (get_or news b.index false)) → r ≡ true → AreCompared all meetings a.index b.index
+old-compared lies all news meetings a b r settled ha hb is h =
     let both = and_parts (not (get_or news a.index false)) (not (get_or news b.index false)) (sym is ∙ h) in
     let first = is-false (get_or news a.index false) both.0 in
     let second = is-false (get_or news b.index false) both.1 in
     record {
-      forth = inr (settled.at_ends a.index b.index ha.within hb.within first second);
-      back = inr (settled.at_ends b.index a.index hb.within ha.within second first);
+      forth = λ p h. inr (settled.at_ends a.index b.index ha.within hb.within first second p h);
+      back = λ p h. inr (settled.at_ends b.index a.index hb.within ha.within second first p h);
     }

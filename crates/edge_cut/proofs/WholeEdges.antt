@@ -1,20 +1,18 @@
 -- An edge that meets all others at its own ends alone stays whole.
-use Rattle.std.proofs.Common.{◌≡◌, zero, suc, ◌||◌, ◌&&◌, Bool, true, false, List, [], ◌∷◌, ◌++◌, length, arith, refl, ap}
+use Rattle.std.proofs.Common.{◌≡◌, ℕ, zero, suc, ◌||◌, ◌&&◌, Bool, true, false, List, [], ◌∷◌, ◌++◌, length, arith, refl, ap}
 use Rattle.std.specs.Prelude.{int_lt}
 use Rattle.std.specs.Ordering.{int_eq}
 use Rattle.std.specs.List.{Contains}
-use Rattle.std.proofs.lemmas.List.Elements.{All-nil}
 use Rattle.slice_base.specs.declared.points.Edge.{Edge}
 use Rattle.edge_cut.specs.declared.stops.Stop.{Stop}
 use Rattle.edge_cut.specs.declared.passes.Marked.{Marked}
-use Rattle.edge_cut.specs.declared.pairs.Pair.{Pair}
+use Rattle.edge_cut.specs.declared.meetings.Meeting.{Meeting}
 use Rattle.edge_cut.specs.Stops.{stop_at, is_before, stops_of}
-use Rattle.edge_cut.specs.Ordered.{IsRising, IsEnough}
+use Rattle.edge_cut.specs.Ordered.{IsRising}
 use Rattle.edge_cut.specs.Inner.Gathered.{end_stops}
-use Rattle.edge_cut.specs.Inner.Indices.{seconds}
-use Rattle.edge_cut.specs.Inner.Pairs.{IsInside}
+use Rattle.edge_cut.specs.Inner.Meetings.{TellAll}
 use Rattle.edge_cut.specs.Inner.News.{AreTold}
-use Rattle.edge_cut.proofs.Read.{stops-by}
+use Rattle.edge_cut.proofs.Read.{stops-told}
 use Rattle.edge_cut.proofs.Told.{told-more}
 
 two-rising : (s t : Stop) → is_before s t ≡ true → IsRising (s ∷ t ∷ [])
@@ -27,11 +25,11 @@ two-rising s t h (suc i) (suc j) d lt below = absurd (omega arith)
 further-before : (s t : Stop) → int_lt s.along t.along ≡ true → is_before s t ≡ true
 further-before s t h = ap (λ (b : Bool). b || (int_eq s.along t.along && (int_lt s.at.x t.at.x || (int_eq s.at.x t.at.x && int_lt s.at.y t.at.y)))) h
 
--- without pairs the stops are the ends
-pub ends-stops : (e : Edge) (all : List Marked) (some : List Pair) → length some ≡ 0 → IsEnough e (seconds all some) all → int_lt (stop_at e e.from).along (stop_at e e.to).along ≡ true → end_stops e ≡ stops_of e all
-ends-stops e all [] none enough further =
-    stops-by e all [] (end_stops e) (end_stops e) (All-nil (IsInside (length all))) enough refl (two-rising (stop_at e e.from) (stop_at e e.to) (further-before (stop_at e e.from) (stop_at e e.to) further)) (λ s h. h) (λ s h. h)
-ends-stops e all (p ∷ ps) none enough further = absurd (omega arith)
+-- without meetings the stops are the ends
+pub ends-stops : (e : Edge) (all : List Marked) (index : ℕ) (some : List Meeting) → length some ≡ 0 → TellAll e all index some → int_lt (stop_at e e.from).along (stop_at e e.to).along ≡ true → end_stops e ≡ stops_of e all
+ends-stops e all index [] none told further =
+    stops-told e all index [] (end_stops e) (end_stops e) told refl (two-rising (stop_at e e.from) (stop_at e e.to) (further-before (stop_at e e.from) (stop_at e e.to) further)) (λ s h. h) (λ s h. h)
+ends-stops e all index (m ∷ ms) none told further = absurd (omega arith)
 
 -- what is told with a whole edge more
 pub told-one : (all old new : List Marked) (bs cs : List Bool) (m : Marked) → new ≡ old ++ m ∷ [] → cs ≡ bs ++ false ∷ [] → Contains all m → end_stops m.edge ≡ stops_of m.edge all → AreTold all old bs → AreTold all new cs

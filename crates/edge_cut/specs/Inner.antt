@@ -1,7 +1,8 @@
 -- What the bodies and their proofs alone speak of.
 pub mod Heights
 pub mod Indices
-pub mod Pairs
+pub mod Columns
+pub mod Meetings
 pub mod Sides
 pub mod Gathered
 pub mod Passes

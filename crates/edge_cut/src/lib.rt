@@ -4,11 +4,13 @@
 #![tactic(auto)]
 
 mod boxes;
+mod columns;
 mod crossings;
 mod cutting;
 mod laws;
-mod pairs;
+mod meetings;
 mod passes;
+mod sides;
 mod stops;
 
 pub use crossings::{Met, meeting};

@@ -5,6 +5,7 @@ use Rattle.std.specs.Ordering.{int_cmp, on, then_cmp}
 use Rattle.slice_base.specs.declared.points.Edge.{Edge}
 use Rattle.edge_cut.specs.declared.stops.Stop.{Stop}
 use Rattle.edge_cut.specs.declared.passes.Marked.{Marked}
+use Rattle.edge_cut.specs.declared.meetings.Meeting.{Meeting}
 use Rattle.edge_cut.specs.Meeting.{meeting_of}
 use Rattle.edge_cut.specs.Stops.{stop_at}
 
@@ -20,6 +21,10 @@ meeting_stops e (m ∷ ms) = map (stop_at e) (meeting_of e m.edge) ++ meeting_st
 -- the ends of e, and its meeting points with these edges
 abbrev pub gathered : Edge → List Marked → List Stop
 gathered e ms = stop_at e e.from ∷ stop_at e e.to ∷ meeting_stops e ms
+
+-- the ends of e, and these meeting points
+abbrev pub gathered_at : Edge → List Meeting → List Stop
+gathered_at e some = stop_at e e.from ∷ stop_at e e.to ∷ map (λ m. stop_at e m.at) some
 
 -- the ends of e alone
 abbrev pub end_stops : Edge → List Stop

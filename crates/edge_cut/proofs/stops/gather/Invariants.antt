@@ -1,10 +1,10 @@
-use Rattle.std.proofs.Common.{◌≡◌, ◌≤◌, ◌+◌, ◌*◌, ◌++◌, drop, length}
-use Rattle.edge_cut.specs.Inner.Indices.{seconds}
-use Rattle.edge_cut.specs.Inner.Gathered.{meeting_stops, gathered}
+use Rattle.std.proofs.Common.{◌≡◌, ◌≤◌, ◌+◌, ◌++◌, drop, length, map}
+use Rattle.edge_cut.specs.Stops.{stop_at}
+use Rattle.edge_cut.specs.Inner.Gathered.{gathered_at}
 use Rattle.edge_cut.proofs.stops.gather.Given as goal
 
-abbrev pub invariant-loop-pair : goal.invariant-loop-pair
-invariant-loop-pair l = record {
-  few : length l.stops.items ≤ 2 * l.pair-index + 2;
-  so_far : l.stops.items ++ meeting_stops l.e (seconds l.all (drop l.pair-index l.some)) ≡ gathered l.e (seconds l.all l.some);
+abbrev pub invariant-loop-meeting : goal.invariant-loop-meeting
+invariant-loop-meeting l = record {
+  few : length l.stops.items ≤ l.meeting-index + 2;
+  so_far : l.stops.items ++ map (λ m. stop_at l.e m.at) (drop l.meeting-index l.some) ≡ gathered_at l.e l.some;
 }
