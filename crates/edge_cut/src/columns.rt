@@ -150,7 +150,7 @@ fn files_of(alloc: Global, lies: bool, width: u32, all: &[Marked]) -> Result<Vec
     requires { length all.now ≤ 100000 }
     ensures { IfOk result (λ files. AreFiled lies width all.now files.items) }
 {
-    let mut files = Vec::new(alloc);
+    let mut files = Vec::with_capacity(alloc, all.len() * 2)?;
     for index in 0..all.len() {
         file(
             &mut files,

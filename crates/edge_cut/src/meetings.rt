@@ -1,6 +1,6 @@
 // The points where edges meet elsewhere than at their ends. Two edges whose boxes touch are compared once, for both.
 
-ghost use Rattle.std.specs.Prelude.{◌≡◌, ◌+◌, ◌<◌, ◌≤◌, ◌++◌, [], ◌∷◌, ◌&&◌, not, false, length, OnOk, IfOk, option_to_list, slice_index_or};
+ghost use Rattle.std.specs.Prelude.{◌≡◌, ◌≢◌, ◌+◌, ◌<◌, ◌≤◌, ◌++◌, [], ◌∷◌, ◌&&◌, not, false, length, OnOk, IfOk, option_to_list, slice_index_or};
 ghost use Rattle.std.specs.List.{All};
 ghost use Rattle.edge_cut.specs.Meeting.{meeting_of};
 ghost use Rattle.edge_cut.specs.Inner.Columns.{AreRising, IsExtentOf, IsFileOf};
@@ -41,6 +41,12 @@ impl From<NoMemory> for MeetingFault {
     fn from(_: NoMemory) -> Self {
         MeetingFault::NoMemory
     }
+}
+
+fn with_room(alloc: Global, count: usize) -> Result<Vec<Meeting>, NoMemory>
+    ensures { IfOk result (λ meetings. meetings.items ≡ []) }
+{
+    Ok(Vec::with_capacity(alloc, count)?)
 }
 
 fn push(meetings: &mut Vec<Meeting>, meeting: Meeting) -> Result<(), NoMemory>
@@ -112,7 +118,8 @@ fn push_shared(
     Ok(())
 }
 
-// Each of two parallel edges by itself.
+// Each of two parallel edges by itself. Few edges come here, and a walk over boxes is faster without it.
+#[inline(never)]
 fn push_parallel(
     meetings: &mut Vec<Meeting>,
     a: Placed,
@@ -128,7 +135,7 @@ fn push_parallel(
     Ok(())
 }
 
-// The one meeting point for both.
+// The one meeting point for both edges.
 fn push_both(
     meetings: &mut Vec<Meeting>,
     a: Placed,
@@ -142,6 +149,23 @@ fn push_both(
     push_any(meetings, a, p)?;
     push_any(meetings, b, p)?;
     Ok(())
+}
+
+// Of two edges that aren't parallel, by the sides of their ends. A walk over boxes is faster without it.
+#[inline(never)]
+fn push_crossing(
+    meetings: &mut Vec<Meeting>,
+    a: Placed,
+    b: Placed,
+    sides: Sides,
+    others: Sides,
+) -> Result<(), MeetingFault>
+    requires first { AreSides a.edge b.edge sides }
+    requires second { AreSides b.edge a.edge others }
+    requires other { sides.from ≢ sides.to }
+    ensures { OnOk result (ListsBoth a.edge b.edge a.index b.index meetings.old.items meetings.new.items) }
+{
+    push_both(meetings, a, b, meeting_of(a.edge, b.edge, sides, others))
 }
 
 // Most edges that aren't parallel are known to meet at ends alone by the sides of their ends, or by a shared one.
@@ -162,7 +186,7 @@ fn push_meetings(meetings: &mut Vec<Meeting>, a: Placed, b: Placed) -> Result<()
     if are_on_one_side(others) {
         return Ok(());
     }
-    push_both(meetings, a, b, meeting_of(a.edge, b.edge, sides, others))
+    push_crossing(meetings, a, b, sides, others)
 }
 
 fn push_compared(
@@ -257,7 +281,7 @@ fn meetings_of(
     ensures compared { IfOk result (λ meetings. ComparedBelow all.now meetings.items files.now (length files.now)) }
     ensures are { IfOk result (λ meetings. AreMeetings all.now meetings.items) }
 {
-    let mut meetings = Vec::new(alloc);
+    let mut meetings = with_room(alloc, all.len())?;
     for r in 0..files.len() {
         compare_from(&mut meetings, all, news, lies, files, r)?;
     }

@@ -9,7 +9,7 @@ use Rattle.edge_cut.proofs.columns.files_of.Goals as goal
 
 pub loop-index-init : goal.loop-index-init
 loop-index-init c = record {
-  are = subst (λ (fs : List Filed). All (IsFileOf c.args.lies c.args.all.now) fs) (sym c.new-files.ensures.items) (All-nil (IsFileOf c.args.lies c.args.all.now));
+  are = subst (λ (fs : List Filed). All (IsFileOf c.args.lies c.args.all.now) fs) (sym c.in_ok-files.ensures.items) (All-nil (IsFileOf c.args.lies c.args.all.now));
   each = λ i lt. absurd (omega (arith, lt));
 }
 

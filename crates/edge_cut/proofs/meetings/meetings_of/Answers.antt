@@ -7,7 +7,7 @@ use Rattle.edge_cut.proofs.meetings.meetings_of.Goals as goal
 
 pub loop-r-init : goal.loop-r-init
 loop-r-init c = record {
-  are = subst (λ (ms : List Meeting). AreMeetings c.args.all.now ms) (sym c.new-meetings.ensures.items) (none-are c.args.all.now);
+  are = subst (λ (ms : List Meeting). AreMeetings c.args.all.now ms) (sym c.in_ok-meetings.ensures) (none-are c.args.all.now);
   so_far = λ q lt. absurd (omega (arith, lt));
 }
 

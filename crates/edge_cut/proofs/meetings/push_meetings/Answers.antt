@@ -5,8 +5,8 @@ use Rattle.edge_cut.proofs.meetings.push_meetings.Goals as goal
 pub push_parallel-requires-clause-level : goal.push_parallel-requires-clause-level
 push_parallel-requires-clause-level c = level-same c.sides_of-sides.result c.are_level.result c.are_level.ensures c.if-are_level.true
 
-pub meeting_of-requires-clause-other : goal.meeting_of-requires-clause-other
-meeting_of-requires-clause-other c = level-not c.sides_of-sides.result c.are_level.result c.are_level.ensures c.if-are_level.false
+pub push_crossing-requires-clause-other : goal.push_crossing-requires-clause-other
+push_crossing-requires-clause-other c = level-not c.sides_of-sides.result c.are_level.result c.are_level.ensures c.if-are_level.false
 
 pub returns-then-are_on_one_side : goal.returns-then-are_on_one_side
 returns-then-are_on_one_side c =
