@@ -6,11 +6,10 @@ use Rattle.slice_base.specs.declared.points.Edge.{Edge}
 use Rattle.edge_cut.specs.declared.passes.Marked.{Marked}
 use Rattle.edge_cut.specs.declared.meetings.Meeting.{Meeting}
 use Rattle.edge_cut.specs.Meeting.{meeting_of}
-use Rattle.edge_cut.specs.Ordered.{IsEnd, MeetsAt}
+use Rattle.edge_cut.specs.Ordered.{IsEnd, MeetsAt, MeetsAtEnds}
 use Rattle.edge_cut.specs.Inner.Indices.{nothing}
 use Rattle.edge_cut.specs.Inner.Meetings.{meeting_at, IsOneAt, Lists, ListsBoth, AreCompared, AreMeetings, Compares}
 use Rattle.edge_cut.proofs.Ordered.{In, in-contained, contains-in}
-use Rattle.edge_cut.proofs.AtEnds.{AtEnds}
 use Rattle.edge_cut.proofs.Compared.{any-default, in-front, in-last, keeps-then, still-at}
 
 in-right : {X : Type 0} (x : X) (xs ys : List X) → In x ys → In x (xs ++ ys)
@@ -101,14 +100,6 @@ both-listed e f i j a b c g h = record {
     last m (inl there) = first m (g.only m there)
     last m (inr one) = inr (inr one)
 
-pub both-ends : (e f : Edge) (i j : ℕ) (ms : List Meeting) → AtEnds e f → AtEnds f e → ListsBoth e f i j ms ms
-both-ends e f i j ms forth back = record {
-  kept = λ m h. h;
-  forth = λ p h. inr (forth p h);
-  back = λ p h. inr (back p h);
-  only = λ m h. inl h;
-}
-
 -- edges of a list
 
 is-met : (all : List Marked) (i j k : ℕ) (p : Pt) → j < length all → k ≡ i → Contains (meeting_of (get_or all i nothing).edge (get_or all j nothing).edge) p → MeetsAt (get_or all k nothing).edge all p
@@ -134,6 +125,9 @@ compares-both all i j old new iin jin h = record {
     each are m (inl there) = are m there
     each are m (inr (inl one)) = is-met all i j m.index m.at jin one.0 one.1
     each are m (inr (inr one)) = is-met all j i m.index m.at iin one.0 one.1
+
+pub compared-ends : (all : List Marked) (i j : ℕ) (ms : List Meeting) → MeetsAtEnds (get_or all i nothing).edge (get_or all j nothing) → MeetsAtEnds (get_or all j nothing).edge (get_or all i nothing) → AreCompared all ms i j
+compared-ends all i j ms forth back = record { forth = λ p h. inr (forth p h); back = λ p h. inr (back p h) }
 
 pub compares-none : (all : List Marked) (i j : ℕ) (ms : List Meeting) → AreCompared all ms i j → Compares all i j ms ms
 compares-none all i j ms compared = record { kept = λ m h. h; compared = compared; are = λ are. are }

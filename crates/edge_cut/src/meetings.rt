@@ -1,6 +1,6 @@
 // The points where edges meet elsewhere than at their ends. Two edges whose boxes touch are compared once, for both.
 
-ghost use Rattle.std.specs.Prelude.{◌≡◌, ◌≢◌, ◌+◌, ◌<◌, ◌≤◌, ◌++◌, [], ◌∷◌, ◌&&◌, not, false, length, OnOk, IfOk, option_to_list, slice_index_or};
+ghost use Rattle.std.specs.Prelude.{◌≡◌, ◌+◌, ◌<◌, ◌≤◌, ◌++◌, [], ◌∷◌, ◌&&◌, not, false, length, OnOk, IfOk, option_to_list, slice_index_or};
 ghost use Rattle.std.specs.List.{All};
 ghost use Rattle.edge_cut.specs.Meeting.{meeting_of};
 ghost use Rattle.edge_cut.specs.Inner.Columns.{AreRising, IsExtentOf, IsFileOf};
@@ -12,9 +12,7 @@ use crate::boxes::are_apart;
 use crate::columns::{Extent, Filed, is_up_to, limit_of, sorted};
 use crate::crossings::end_on;
 use crate::passes::Marked;
-use crate::sides::{
-    Sides, are_level, are_on_line, are_on_one_side, is_end, meeting_of, share_end, sides_of,
-};
+use crate::sides::{Sides, are_level, are_on_line, both_at_ends, is_end, meeting_of, sides_of};
 use slice_base::{Edge, NoMemory, Pt};
 use std::alloc::Global;
 
@@ -118,8 +116,7 @@ fn push_shared(
     Ok(())
 }
 
-// Each of two parallel edges by itself. Few edges come here, and a walk over boxes is faster without it.
-#[inline(never)]
+// Each of two parallel edges by itself.
 fn push_parallel(
     meetings: &mut Vec<Meeting>,
     a: Placed,
@@ -151,24 +148,7 @@ fn push_both(
     Ok(())
 }
 
-// Of two edges that aren't parallel, by the sides of their ends. A walk over boxes is faster without it.
-#[inline(never)]
-fn push_crossing(
-    meetings: &mut Vec<Meeting>,
-    a: Placed,
-    b: Placed,
-    sides: Sides,
-    others: Sides,
-) -> Result<(), MeetingFault>
-    requires first { AreSides a.edge b.edge sides }
-    requires second { AreSides b.edge a.edge others }
-    requires other { sides.from ≢ sides.to }
-    ensures { OnOk result (ListsBoth a.edge b.edge a.index b.index meetings.old.items meetings.new.items) }
-{
-    push_both(meetings, a, b, meeting_of(a.edge, b.edge, sides, others))
-}
-
-// Most edges that aren't parallel are known to meet at ends alone by the sides of their ends, or by a shared one.
+// Lists the meeting points of two edges for both.
 fn push_meetings(meetings: &mut Vec<Meeting>, a: Placed, b: Placed) -> Result<(), MeetingFault>
     ensures { OnOk result (ListsBoth a.edge b.edge a.index b.index meetings.old.items meetings.new.items) }
 {
@@ -176,25 +156,13 @@ fn push_meetings(meetings: &mut Vec<Meeting>, a: Placed, b: Placed) -> Result<()
     if are_level(sides) {
         return push_parallel(meetings, a, b, sides);
     }
-    if are_on_one_side(sides) {
-        return Ok(());
-    }
-    if share_end(a.edge, b.edge) {
-        return Ok(());
-    }
     let others = sides_of(b.edge, a.edge);
-    if are_on_one_side(others) {
-        return Ok(());
-    }
-    push_crossing(meetings, a, b, sides, others)
+    push_both(meetings, a, b, meeting_of(a.edge, b.edge, sides, others))
 }
 
-fn push_compared(
-    meetings: &mut Vec<Meeting>,
-    all: &[Marked],
-    i: u32,
-    j: u32,
-) -> Result<(), MeetingFault>
+// Few edges come here: kept out of the walk over boxes, which is slower with it.
+#[inline(never)]
+fn push_met(meetings: &mut Vec<Meeting>, all: &[Marked], i: u32, j: u32) -> Result<(), MeetingFault>
     requires i_in { i < length all.now }
     requires j_in { j < length all.now }
     ensures { OnOk result (Compares all.now i j meetings.old.items meetings.new.items) }
@@ -209,6 +177,23 @@ fn push_compared(
     };
     push_meetings(meetings, a, b)?;
     Ok(())
+}
+
+// Most edges whose boxes touch are known to meet at ends alone without a meeting point.
+fn push_compared(
+    meetings: &mut Vec<Meeting>,
+    all: &[Marked],
+    i: u32,
+    j: u32,
+) -> Result<(), MeetingFault>
+    requires i_in { i < length all.now }
+    requires j_in { j < length all.now }
+    ensures { OnOk result (Compares all.now i j meetings.old.items meetings.new.items) }
+{
+    if both_at_ends(all[i as usize], all[j as usize]) {
+        return Ok(());
+    }
+    push_met(meetings, all, i, j)
 }
 
 // Two edges that aren't new meet at their ends alone.

@@ -1,13 +1,15 @@
 // On which sides of each other the ends of two edges lie, and where they meet by that.
 
-ghost use Rattle.std.specs.Prelude.{◌≡◌, ◌≢◌, ◌≤◌, ◌^◌, ◌&&◌, ◌||◌, ◌-ℤ◌, neg_ℤ, pos, int_lt, option_to_list};
+ghost use Rattle.std.specs.Prelude.{◌≡◌, ◌≢◌, ◌≤◌, ◌^◌, ◌&&◌, ◌||◌, ◌-ℤ◌, neg_ℤ, pos, true, int_lt, option_to_list};
 ghost use Rattle.std.specs.Ordering.{int_eq};
 ghost use Rattle.std.specs.Int.RustNames.{unsigned_abs};
 ghost use Rattle.slice_base.specs.Plane.{same_point, cross_of};
 ghost use Rattle.edge_cut.specs.Meeting.{meeting_of};
+ghost use Rattle.edge_cut.specs.Ordered.{MeetsAtEnds};
 ghost use Rattle.edge_cut.specs.Inner.Sides.{AreSides, is_end, share_end};
 
 use crate::crossings::{Parts, crossing};
+use crate::passes::Marked;
 use slice_base::wide::cross;
 use slice_base::{Edge, Pt, is_same};
 
@@ -27,7 +29,7 @@ pub(crate) fn sides_of(e: Edge, f: Edge) -> Sides
     }
 }
 
-pub(crate) fn are_on_one_side(s: Sides) -> bool
+fn are_on_one_side(s: Sides) -> bool
     ensures { result ≡ ((int_lt (pos 0) s.from && int_lt (pos 0) s.to) ||
         (int_lt s.from (pos 0) && int_lt s.to (pos 0))) }
 {
@@ -53,10 +55,29 @@ pub(crate) fn is_end(e: Edge, p: Pt) -> bool
     is_same(p, e.from) || is_same(p, e.to)
 }
 
-pub(crate) fn share_end(e: Edge, f: Edge) -> bool
+fn share_end(e: Edge, f: Edge) -> bool
     ensures { result ≡ share_end e f }
 {
     is_end(e, f.from) || is_end(e, f.to)
+}
+
+/// By the sides alone, or by an end that is shared, which tell it for both. Where this fails they may meet anywhere.
+pub(crate) fn both_at_ends(e: Marked, f: Marked) -> bool
+    ensures forth { result ≡ true → MeetsAtEnds e.edge f }
+    ensures back { result ≡ true → MeetsAtEnds f.edge e }
+{
+    let sides = sides_of(e.edge, f.edge);
+    if are_level(sides) {
+        return false;
+    }
+    if are_on_one_side(sides) {
+        return true;
+    }
+    if share_end(e.edge, f.edge) {
+        return true;
+    }
+    let others = sides_of(f.edge, e.edge);
+    are_on_one_side(others)
 }
 
 fn parts_of(s: Sides, t: Sides) -> Parts
