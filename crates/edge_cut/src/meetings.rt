@@ -228,6 +228,7 @@ fn compare(
 }
 
 // Compares the box at `r` with those behind it in its column.
+#[inline(never)]
 fn compare_from(
     meetings: &mut Vec<Meeting>,
     all: &[Marked],
