@@ -1,6 +1,6 @@
 -- Midpoints in a box that an edge has wholly on one side.
-use Rattle.std.proofs.Common.{◌≡◌, ◌⊎◌, inl, inr, ℕ, ℤ, pos, ◌+ℤ◌, ◌-ℤ◌, ◌*ℤ◌, ◌≤ℤ◌, ◌<ℤ◌, Bool, true, false, cond, ◌&&◌, int_lt, List, [], ◌∷◌, ◌++◌, ◌+◌, ◌-◌, ◌*◌, ◌<◌, ◌≤◌, length, get_or, length-append, arith, refl, sym, ap, ◌∙◌, subst}
-use Rattle.std.specs.Prelude.{int_le}
+use Rattle.std.proofs.Common.{◌≡◌, ◌⊎◌, inl, inr, ℕ, ℤ, pos, ◌+ℤ◌, ◌-ℤ◌, ◌*ℤ◌, ◌≤ℤ◌, ◌<ℤ◌, Bool, true, false, cond, ◌&&◌, ◌||◌, int_lt, List, [], ◌∷◌, ◌++◌, ◌+◌, ◌-◌, ◌*◌, ◌<◌, ◌≤◌, length, get_or, length-append, arith, refl, sym, ap, ◌∙◌, subst}
+use Rattle.std.specs.Prelude.{int_le, ◌^◌, unsigned_abs}
 use Rattle.std.proofs.lemmas.Int.{ints}
 use Rattle.std.proofs.lemmas.Bool.{and_parts}
 use Rattle.std.proofs.lemmas.List.{get_or_append_left}
@@ -11,6 +11,8 @@ use Rattle.clip_core.specs.declared.rays.Ray.{Ray}
 use Rattle.clip_core.specs.declared.hulls.Hull.{Hull}
 use Rattle.clip_core.specs.Windings.{none, plus, reaches, stands_right}
 use Rattle.clip_core.specs.Inner.Rays.{no_ray, twice_middle, twice_across, ray_with}
+use Rattle.clip_core.specs.declared.slopes.Slope.{Slope}
+use Rattle.clip_core.specs.Inner.Slopes.{IsSlope}
 use Rattle.clip_core.specs.Inner.Hulls.{misses, takes, IsIn, IsMore, IsHull, AreHulls}
 use Rattle.clip_core.specs.Inner.Raises.{lifted}
 use Rattle.slice_base.specs.Plane.{cross_of}
@@ -30,14 +32,41 @@ turn-sum dx dy a c x z =
     let u = diff_of z in
     rw (p.is, q.is, r.is, s.is, t.is, u.is) (simp (diff-add, diff-mul, diff-sub) (diff-eq _ _ _ _ (omega arith)))
 
+from-sum : (p q l : ℤ) → (p +ℤ q) -ℤ (l +ℤ l) ≡ (p -ℤ l) +ℤ (q -ℤ l)
+from-sum p q l = omega (arith, ints)
+
 -- the same by its parts
-pub turn-is : (f b : Bundle) (r p q dx uy dy ux : ℤ) → r ≡ p -ℤ q → p ≡ dx *ℤ uy → q ≡ dy *ℤ ux → dx ≡ f.high.x -ℤ f.low.x → uy ≡ (b.low.y -ℤ f.low.y) +ℤ (b.high.y -ℤ f.low.y) → dy ≡ f.high.y -ℤ f.low.y → ux ≡ (b.low.x -ℤ f.low.x) +ℤ (b.high.x -ℤ f.low.x)
-    → r ≡ cross_of f.low f.high f.low b.low +ℤ cross_of f.low f.high f.low b.high
-turn-is f b r p q dx uy dy ux is ip iq idx iuy idy iux =
-    is
-    ∙ ((λ i. ip i -ℤ iq i)
-    ∙ ((λ i. (idx i *ℤ iuy i) -ℤ (idy i *ℤ iux i))
-    ∙ sym (turn-sum (f.high.x -ℤ f.low.x) (f.high.y -ℤ f.low.y) (b.low.y -ℤ f.low.y) (b.high.y -ℤ f.low.y) (b.low.x -ℤ f.low.x) (b.high.x -ℤ f.low.x))))
+pub turn-is : (f b : Bundle) (p q dx uy dy ux ly lx : ℤ) → p ≡ dx *ℤ uy → q ≡ dy *ℤ ux → dx ≡ f.high.x -ℤ f.low.x → dy ≡ f.high.y -ℤ f.low.y → uy ≡ (b.low.y +ℤ b.high.y) -ℤ ly → ux ≡ (b.low.x +ℤ b.high.x) -ℤ lx → ly ≡ f.low.y +ℤ f.low.y → lx ≡ f.low.x +ℤ f.low.x
+    → p -ℤ q ≡ cross_of f.low f.high f.low b.low +ℤ cross_of f.low f.high f.low b.high
+turn-is f b p q dx uy dy ux ly lx ip iq idx idy iuy iux ily ilx =
+    let vy : uy ≡ (b.low.y -ℤ f.low.y) +ℤ (b.high.y -ℤ f.low.y) = iuy ∙ (ap (λ (t : ℤ). (b.low.y +ℤ b.high.y) -ℤ t) ily ∙ from-sum b.low.y b.high.y f.low.y) in
+    let vx : ux ≡ (b.low.x -ℤ f.low.x) +ℤ (b.high.x -ℤ f.low.x) = iux ∙ (ap (λ (t : ℤ). (b.low.x +ℤ b.high.x) -ℤ t) ilx ∙ from-sum b.low.x b.high.x f.low.x) in
+    (λ i. ip i -ℤ iq i)
+    ∙ ((λ i. (idx i *ℤ vy i) -ℤ (idy i *ℤ vx i))
+    ∙ sym (turn-sum (f.high.x -ℤ f.low.x) (f.high.y -ℤ f.low.y) (b.low.y -ℤ f.low.y) (b.high.y -ℤ f.low.y) (b.low.x -ℤ f.low.x) (b.high.x -ℤ f.low.x)))
+
+pub reach-is : (f b : Bundle) (low at high : ℤ) → low ≡ f.low.y +ℤ f.low.y → at ≡ b.low.y +ℤ b.high.y → high ≡ f.high.y +ℤ f.high.y → (int_le low at && int_lt at high) ≡ reaches f b
+reach-is f b low at high e g h = λ i. int_le (e i) (g i) && int_lt (g i) (h i)
+
+-- a slope by its parts
+pub slope-is : (ends : Bundle) (low high begin end left right across up : ℤ) → low ≡ ends.low.y +ℤ ends.low.y → high ≡ ends.high.y +ℤ ends.high.y → begin ≡ ends.low.x +ℤ ends.low.x → end ≡ ends.high.x +ℤ ends.high.x
+    → left ≤ℤ begin → left ≤ℤ end → begin ≤ℤ right → end ≤ℤ right → across ≡ ends.high.x -ℤ ends.low.x → up ≡ ends.high.y -ℤ ends.low.y → unsigned_abs low ≤ 2 ^ 32 → unsigned_abs begin ≤ 2 ^ 32 → unsigned_abs across ≤ 2 ^ 32 → unsigned_abs up ≤ 2 ^ 32
+    → IsSlope (record { ends = ends; low = low; high = high; begin = begin; left = left; right = right; across = across; up = up })
+slope-is ends low high begin end left right across up e0 e1 e2 e3 l0 l1 r0 r1 e6 e7 s0 s2 s6 s7 = record {
+  low = e0;
+  high = e1;
+  begin = e2;
+  left_low = subst (λ (t : ℤ). left ≤ℤ t) e2 l0;
+  left_high = subst (λ (t : ℤ). left ≤ℤ t) e3 l1;
+  right_low = subst (λ (t : ℤ). t ≤ℤ right) e2 r0;
+  right_high = subst (λ (t : ℤ). t ≤ℤ right) e3 r1;
+  across = e6;
+  up = e7;
+  low_small = s0;
+  begin_small = s2;
+  across_small = s6;
+  up_small = s7;
+}
 
 -- the same, from the other end
 turn-split : (dx dy a x : ℤ) → (dx *ℤ a) -ℤ (dy *ℤ x) ≡ (dx *ℤ (a -ℤ (dy +ℤ dy))) +ℤ (dy *ℤ ((dx +ℤ dx) -ℤ x))
@@ -176,21 +205,22 @@ not-both : (a b : Bool) → (a ≡ true → b ≡ false) → (a && b) ≡ false
 not-both true b h = h refl
 not-both false b h = refl
 
--- the edge is wholly to the left
+-- the edge is wholly to the left, or ends below
 
-misses-parts : (f : Bundle) (h : Hull) → misses f h ≡ true → ((f.low.x +ℤ f.low.x) <ℤ h.left) × ((f.high.x +ℤ f.high.x) <ℤ h.left)
-misses-parts f h is =
-    let p = and_parts (int_lt (f.low.x +ℤ f.low.x) h.left) (int_lt (f.high.x +ℤ f.high.x) h.left) is in
-    (lt-is (f.low.x +ℤ f.low.x) h.left p.0, lt-is (f.high.x +ℤ f.high.x) h.left p.1)
+misses-left : (s : Slope) (h : Hull) → IsSlope s → int_lt s.right h.left ≡ true → ((s.ends.low.x +ℤ s.ends.low.x) <ℤ h.left) × ((s.ends.high.x +ℤ s.ends.high.x) <ℤ h.left)
+misses-left s h is left =
+    let p = lt-is s.right h.left left in
+    (le-lt (s.ends.low.x +ℤ s.ends.low.x) s.right h.left is.right_low p, le-lt (s.ends.high.x +ℤ s.ends.high.x) s.right h.left is.right_high p)
 
 reaches-parts : (f b : Bundle) → reaches f b ≡ true → ((f.low.y +ℤ f.low.y) ≤ℤ (b.low.y +ℤ b.high.y)) × ((b.low.y +ℤ b.high.y) <ℤ (f.high.y +ℤ f.high.y))
 reaches-parts f b is =
     let p = and_parts (int_le (f.low.y +ℤ f.low.y) (b.low.y +ℤ b.high.y)) (int_lt (b.low.y +ℤ b.high.y) (f.high.y +ℤ f.high.y)) is in
     (le-is (f.low.y +ℤ f.low.y) (b.low.y +ℤ b.high.y) p.0, lt-is (b.low.y +ℤ b.high.y) (f.high.y +ℤ f.high.y) p.1)
 
-pub misses-meets : (f : Bundle) (h : Hull) (b : Bundle) → IsIn h b → misses f h ≡ true → (reaches f b && stands_right f b) ≡ false
-misses-meets f h b at is =
-    let p = misses-parts f h is in
+left-meets : (s : Slope) (h : Hull) (b : Bundle) → IsSlope s → IsIn h b → int_lt s.right h.left ≡ true → (reaches s.ends b && stands_right s.ends b) ≡ false
+left-meets s h b slope at is =
+    let f = s.ends in
+    let p = misses-left s h slope is in
     let right = lt-le (f.low.x +ℤ f.low.x) h.left (twice_across b) p.0 at.left in
     let far = lt-le (f.high.x +ℤ f.high.x) h.left (twice_across b) p.1 at.left in
     not-both (reaches f b) (stands_right f b) (λ up.
@@ -198,8 +228,29 @@ misses-meets f h b at is =
     not-up (Turn f.low.x f.low.y f.high.x f.high.y b.low.x b.low.y b.high.x b.high.y)
     (turns-right f.low.x f.low.y f.high.x f.high.y b.low.x b.low.y b.high.x b.high.y q.0 q.1 right far))
 
-pub missed-ray : (f : Bundle) (s : Windings) (h : Hull) (r : Ray) → IsIn h r.bundle → misses f h ≡ true → r ≡ ray_with f s r
-missed-ray f s h r at is = ray-same f s r (misses-meets f h r.bundle at is)
+not-under : (a b c d : ℤ) → a ≤ℤ b → b ≤ℤ c → a ≡ d → int_lt c d ≡ false
+not-under a b c d f g is = grind (arith, ints)
+
+not-middle : (a b c : Bool) → b ≡ false → ((a && b) && c) ≡ false
+not-middle false b c h = refl
+not-middle true false c h = refl
+not-middle true true c h = absurd (cc)
+
+below-meets : (s : Slope) (h : Hull) (b : Bundle) → IsSlope s → IsIn h b → int_le s.high h.low ≡ true → (reaches s.ends b && stands_right s.ends b) ≡ false
+below-meets s h b slope at is =
+    let f = s.ends in
+    not-middle (int_le (f.low.y +ℤ f.low.y) (twice_middle b)) (int_lt (twice_middle b) (f.high.y +ℤ f.high.y)) (stands_right f b)
+    (not-under s.high h.low (twice_middle b) (f.high.y +ℤ f.high.y) (le-is s.high h.low is) at.low slope.high)
+
+pub misses-meets : (s : Slope) (h : Hull) (b : Bundle) → IsSlope s → IsIn h b → misses s h ≡ true → (reaches s.ends b && stands_right s.ends b) ≡ false
+misses-meets s h b slope at is = pick (int_lt s.right h.left) refl is
+  where
+    pick : (t : Bool) → int_lt s.right h.left ≡ t → (t || int_le s.high h.low) ≡ true → (reaches s.ends b && stands_right s.ends b) ≡ false
+    pick true left h' = left-meets s h b slope at left
+    pick false left low = below-meets s h b slope at low
+
+pub missed-ray : (s : Slope) (w : Windings) (h : Hull) (r : Ray) → IsSlope s → IsIn h r.bundle → misses s h ≡ true → r ≡ ray_with s.ends w r
+missed-ray s w h r slope at is = ray-same s.ends w r (misses-meets s h r.bundle slope at is)
 
 -- the edge is wholly to the right
 
@@ -209,21 +260,23 @@ pub record IsTaken (f : Bundle) (h : Hull) : Type 0 where
   pub near : h.right <ℤ (f.low.x +ℤ f.low.x)
   pub far : h.right <ℤ (f.high.x +ℤ f.high.x)
 
-takes-parts : (f : Bundle) (h : Hull) → takes f h ≡ true → IsTaken f h
-takes-parts f h is =
-    let p = and_parts (int_le (f.low.y +ℤ f.low.y) h.low && int_lt h.high (f.high.y +ℤ f.high.y)) (int_lt h.right (f.low.x +ℤ f.low.x) && int_lt h.right (f.high.x +ℤ f.high.x)) is in
-    let q = and_parts (int_le (f.low.y +ℤ f.low.y) h.low) (int_lt h.high (f.high.y +ℤ f.high.y)) p.0 in
-    let r = and_parts (int_lt h.right (f.low.x +ℤ f.low.x)) (int_lt h.right (f.high.x +ℤ f.high.x)) p.1 in
+takes-parts : (s : Slope) (h : Hull) → IsSlope s → takes s h ≡ true → IsTaken s.ends h
+takes-parts s h slope is =
+    let f = s.ends in
+    let p = and_parts (int_le s.low h.low && int_lt h.high s.high) (int_lt h.right s.left) is in
+    let q = and_parts (int_le s.low h.low) (int_lt h.high s.high) p.0 in
+    let left = lt-is h.right s.left p.1 in
     record {
-      low = le-is (f.low.y +ℤ f.low.y) h.low q.0;
-      high = lt-is h.high (f.high.y +ℤ f.high.y) q.1;
-      near = lt-is h.right (f.low.x +ℤ f.low.x) r.0;
-      far = lt-is h.right (f.high.x +ℤ f.high.x) r.1;
+      low = subst (λ (t : ℤ). t ≤ℤ h.low) slope.low (le-is s.low h.low q.0);
+      high = subst (λ (t : ℤ). h.high <ℤ t) slope.high (lt-is h.high s.high q.1);
+      near = lt-le h.right s.left (f.low.x +ℤ f.low.x) left slope.left_low;
+      far = lt-le h.right s.left (f.high.x +ℤ f.high.x) left slope.left_high;
     }
 
-pub takes-meets : (f : Bundle) (h : Hull) (b : Bundle) → IsIn h b → takes f h ≡ true → (reaches f b && stands_right f b) ≡ true
-takes-meets f h b at is =
-    let p = takes-parts f h is in
+pub takes-meets : (s : Slope) (h : Hull) (b : Bundle) → IsSlope s → IsIn h b → takes s h ≡ true → (reaches s.ends b && stands_right s.ends b) ≡ true
+takes-meets s h b slope at is =
+    let f = s.ends in
+    let p = takes-parts s h slope is in
     let low = le-le (f.low.y +ℤ f.low.y) h.low (twice_middle b) p.low at.low in
     let high = le-lt (twice_middle b) h.high (f.high.y +ℤ f.high.y) at.high p.high in
     let near = le-lt (twice_across b) h.right (f.low.x +ℤ f.low.x) at.right p.near in
@@ -237,9 +290,9 @@ met : (w s : Windings) (t : Bool) → t ≡ true → plus w s ≡ plus w (cond t
 met w s true h = refl
 met w s false h = absurd (cc)
 
-pub taken-ray : (f : Bundle) (s : Windings) (h : Hull) (by : Windings) (r : Ray) → IsIn h r.bundle → takes f h ≡ true → lifted (plus by s) r ≡ ray_with f s (lifted by r)
-taken-ray f s h by r at is =
-    let q = sym (plus_assoc r.sum by s) ∙ met (plus r.sum by) s (reaches f r.bundle && stands_right f r.bundle) (takes-meets f h r.bundle at is) in
+pub taken-ray : (s : Slope) (w : Windings) (h : Hull) (by : Windings) (r : Ray) → IsSlope s → IsIn h r.bundle → takes s h ≡ true → lifted (plus by w) r ≡ ray_with s.ends w (lifted by r)
+taken-ray s w h by r slope at is =
+    let q = sym (plus_assoc r.sum by w) ∙ met (plus r.sum by) w (reaches s.ends r.bundle && stands_right s.ends r.bundle) (takes-meets s h r.bundle slope at is) in
     λ i. record { key = r.key; bundle = r.bundle; index = r.index; sum = q i }
 
 -- a box that has more has what the other has

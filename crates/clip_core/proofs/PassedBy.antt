@@ -1,8 +1,8 @@
 -- Strips of heights: a midpoint in a strip below or above those of an edge's ends isn't reached.
-use Rattle.std.proofs.Common.{◌≡◌, ◌<◌, ◌≤◌, ◌*◌, ◌/◌, ℕ, zero, suc, ℤ, pos, ◌≤ℤ◌, ◌+ℤ◌, ◌&&◌, Bool, true, false, int_lt, List, length, get_or, arith, refl}
+use Rattle.std.proofs.Common.{◌≡◌, ◌<◌, ◌≤◌, ◌*◌, ◌/◌, ◌^◌, ℕ, zero, suc, ℤ, pos, ◌≤ℤ◌, ◌+ℤ◌, ◌&&◌, Bool, true, false, int_lt, List, length, get_or, arith, refl}
 use Rattle.std.specs.Prelude.{int_le, nat_le, nat_lt}
-use Rattle.std.proofs.Math.Nat.{div-mul-le_self, div-zero}
-use Rattle.std.proofs.lemmas.Nat.{le-div}
+use Rattle.std.proofs.Math.Nat.{div-mul-le_self, div-zero, pow-le-pow_right}
+use Rattle.std.proofs.lemmas.Nat.{le-div, mul-le}
 use Rattle.std.proofs.lemmas.Bool.Decides.{nat_tests}
 use Rattle.std.proofs.lemmas.Int.{ints}
 use Rattle.std.proofs.lemmas.Bool.{false_from_ne_true}
@@ -23,8 +23,18 @@ pub div-rises : (a b w : ℕ) → a ≤ b → a / w ≤ b / w
 div-rises a b zero le = omega (arith, div-zero a)
 div-rises a b (suc w) le = le-div (a / suc w) b (suc w) (omega arith) (le-then (a / suc w * suc w) a b (div-mul-le_self a (suc w)) le)
 
+four-times : (q h : ℕ) → 4 ≤ h → q * 4 ≤ q * h
+four-times q h le = mul-le q 4 q h (omega arith) le
+
+pub strip-small : (x bits : ℕ) → 2 ≤ bits → x < 8589934592 → x / 2 ^ bits < 2147483648
+strip-small x bits le below =
+    let four : 4 ≤ 2 ^ bits = pow-le-pow_right {n = 2} (omega arith) {i = 2} {j = bits} le in
+    let few = four-times (x / 2 ^ bits) (2 ^ bits) four in
+    let whole = div-mul-le_self x (2 ^ bits) in
+    omega (arith, few, whole, below)
+
 strip-rises : (high : ℕ) (x y : ℤ) → x ≤ℤ y → strip_of high x ≤ strip_of high y
-strip-rises high x y le = div-rises (above_least x) (above_least y) high (above-rises x y le)
+strip-rises high x y le = div-rises (above_least x) (above_least y) (2 ^ high) (above-rises x y le)
 
 le-of : (x y : ℤ) → int_le x y ≡ true → x ≤ℤ y
 le-of x y h = grind (arith, ints)

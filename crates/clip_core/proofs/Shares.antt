@@ -28,6 +28,11 @@ ray-same f s r h =
     let q = sym (missed r.sum s (reaches f r.bundle && stands_right f r.bundle) h) in
     λ i. record { key = r.key; bundle = r.bundle; index = r.index; sum = q i }
 
+-- an edge that is counted, part by part
+pub counted-is : (w s : Windings) (first second : ℤ) (t : Bool) → first ≡ w.first +ℤ cond t s.first (pos 0) → second ≡ w.second +ℤ cond t s.second (pos 0) → record { first = first; second = second } ≡ plus w (cond t s none)
+counted-is w s first second true e h = both _ _ _ _ e h
+counted-is w s first second false e h = both _ _ _ _ e h
+
 -- sums stay small
 
 abs-more : (x y : ℤ) (n : ℕ) → unsigned_abs x ≤ n → unsigned_abs y ≤ 1 → unsigned_abs (x +ℤ y) ≤ n + 1

@@ -12,6 +12,8 @@ use Rattle.clip_core.specs.declared.hulls.Hull.{Hull}
 use Rattle.clip_core.specs.Windings.{none, plus, less, is_level}
 use Rattle.clip_core.specs.Inner.Small.{AreSmall}
 use Rattle.clip_core.specs.Inner.Rays.{strip_of, meets_ray, ray_with, is_under, is_up_to, AreRising, IsKeyed, IsSmallRay, IsBare, IsFull}
+use Rattle.clip_core.specs.declared.slopes.Slope.{Slope}
+use Rattle.clip_core.specs.Inner.Slopes.{IsSlope}
 use Rattle.clip_core.specs.Inner.Hulls.{misses, takes, IsIn, IsHull, AreHulls}
 use Rattle.clip_core.specs.Inner.Raises.{raised, lifted, ray_at, AllSmall, Adds, AreWith}
 use Rattle.clip_core.proofs.Shares.{any-default, below-or-not, ray-small, ray-wider, wider, plus-right, small-none, IsSoFar, so_far-begins}
@@ -68,21 +70,21 @@ pub adds-after : (f : Bundle) (s : Windings) (i m j : ℕ) (rays mid new : List 
 adds-after f s i m j rays mid new raises mids news e le g h =
     adds-both f s i i j rays mid new raises mids news (omega arith) le (subst (λ (q : ℕ). Adds f s i q rays raises mid mids) e g) h
 
--- a box wholly to the right of the edge
-pub adds-missed : (f : Bundle) (s : Windings) (hull : Hull) (i j : ℕ) (rays : List Ray) (raises : List Windings) → i < j → IsHull hull rays i (j - i) → misses f hull ≡ true → Adds f s i j rays raises rays raises
-adds-missed f s hull i j rays raises some is h = record {
+-- a box that the edge misses
+pub adds-missed : (l : Slope) (s : Windings) (hull : Hull) (i j : ℕ) (rays : List Ray) (raises : List Windings) → IsSlope l → i < j → IsHull hull rays i (j - i) → misses l hull ≡ true → Adds l.ends s i j rays raises rays raises
+adds-missed l s hull i j rays raises slope some is h = record {
   count = refl;
   raises_count = refl;
   before = λ k d lt below. refl;
-  within = λ k d le lt below. missed-ray f s hull (ray_at rays raises k d) (is k d le (omega arith) below) h;
+  within = λ k d le lt below. missed-ray l s hull (ray_at rays raises k d) slope (is k d le (omega arith) below) h;
   behind = λ k d le below. refl;
   small = λ n a. all-wider (n + i) (n + j) rays raises (omega arith) a;
 }
 
 -- a box wholly to the left of it
-pub adds-taken : (f : Bundle) (s : Windings) (hull : Hull) (i j : ℕ) (rays : List Ray) (raises : List Windings) → i < j → j < length raises → IsHull hull rays i (j - i) → takes f hull ≡ true → AreSmall 1 s
-    → Adds f s i j rays raises rays (set (set raises i (plus (get_or raises i none) s)) j (less (get_or raises j none) s))
-adds-taken f s hull i j rays raises some inside is h share =
+pub adds-taken : (l : Slope) (s : Windings) (hull : Hull) (i j : ℕ) (rays : List Ray) (raises : List Windings) → IsSlope l → i < j → j < length raises → IsHull hull rays i (j - i) → takes l hull ≡ true → AreSmall 1 s
+    → Adds l.ends s i j rays raises rays (set (set raises i (plus (get_or raises i none) s)) j (less (get_or raises j none) s))
+adds-taken l s hull i j rays raises slope some inside is h share =
     let v = plus (get_or raises i none) s in
     let w = less (get_or raises j none) s in
     record {
@@ -91,7 +93,7 @@ adds-taken f s hull i j rays raises some inside is h share =
       before = λ k d lt below. ap (λ (u : Windings). lifted u (get_or rays k d)) (raised-low raises i j (suc k) v w some (omega arith));
       within = λ k d le lt below.
           ap (λ (u : Windings). lifted u (get_or rays k d)) (raised-mid raises i j (suc k) s w (omega arith) (omega arith) (omega arith))
-          ∙ taken-ray f s hull (raised raises (suc k)) (get_or rays k d) (is k d le (omega arith) below) h;
+          ∙ taken-ray l s hull (raised raises (suc k)) (get_or rays k d) slope (is k d le (omega arith) below) h;
       behind = λ k d le below. ap (λ (u : Windings). lifted u (get_or rays k d)) (raised-high raises i j (suc k) s some inside (omega arith));
       small = λ n a.
           let one = all-wider (n + i) (n + i + 1) rays raises (omega arith) a in

@@ -3,6 +3,7 @@ pub mod Found
 pub mod Small
 pub mod Rays
 pub mod Indexed
+pub mod Slopes
 pub mod Hulls
 pub mod Raises
 pub mod Starts

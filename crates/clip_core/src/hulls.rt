@@ -1,11 +1,12 @@
 // Boxes round the midpoints of rays that stand together, so that an edge passes over all of them at once.
 
-ghost use Rattle.std.specs.Prelude.{◌≡◌, ◌+◌, ◌<◌, ◌≤◌, ◌&&◌, ◌+ℤ◌, ◌≤ℤ◌, ◌++◌, ◌∷◌, [], length, int_lt, int_le, OnOk, IfOk};
+ghost use Rattle.std.specs.Prelude.{◌≡◌, ◌+◌, ◌<◌, ◌≤◌, ◌&&◌, ◌||◌, ◌+ℤ◌, ◌≤ℤ◌, ◌++◌, ◌∷◌, [], length, int_lt, int_le, OnOk, IfOk};
 ghost use Rattle.clip_core.specs.Inner.Rays.{twice_middle, twice_across};
 ghost use Rattle.clip_core.specs.Inner.Hulls.{misses, takes, IsIn, IsMore, IsHull, AreHulls};
 
 use crate::bundles::Bundle;
 use crate::rays::Ray;
+use crate::slopes::{Slope, Two, greater, lesser, total};
 use slice_base::NoMemory;
 use std::alloc::Global;
 
@@ -18,68 +19,17 @@ pub(crate) struct Hull {
     right: i64,
 }
 
-fn twice(n: i32) -> i64
-    ensures { result ≡ n +ℤ n }
-{
-    n as i64 + n as i64
-}
-
-// Two numbers, of heights or across.
-#[derive(Clone, Copy)]
-struct Two {
-    first: i64,
-    second: i64,
-}
-
-fn is_below(two: Two) -> bool
-    ensures { result ≡ int_lt two.first two.second }
-{
-    two.first < two.second
-}
-
-fn is_at_most(two: Two) -> bool
-    ensures { result ≡ int_le two.first two.second }
-{
-    two.first <= two.second
-}
-
-fn twice_middle(b: Bundle) -> i64
-    ensures { result ≡ twice_middle b }
-{
-    b.low.y as i64 + b.high.y as i64
-}
-
-fn twice_across(b: Bundle) -> i64
-    ensures { result ≡ twice_across b }
-{
-    b.low.x as i64 + b.high.x as i64
-}
-
-pub(crate) fn hull_of(b: Bundle) -> Hull
+fn hull_of(b: Bundle) -> Hull
     ensures { IsIn result b }
 {
-    let height = twice_middle(b);
-    let across = twice_across(b);
+    let height = total(b.low.y, b.high.y);
+    let across = total(b.low.x, b.high.x);
     Hull {
         low: height,
         high: height,
         left: across,
         right: across,
     }
-}
-
-fn lesser(two: Two) -> i64
-    ensures first { result ≤ℤ two.first }
-    ensures second { result ≤ℤ two.second }
-{
-    two.first.min(two.second)
-}
-
-fn greater(two: Two) -> i64
-    ensures first { two.first ≤ℤ result }
-    ensures second { two.second ≤ℤ result }
-{
-    two.first.max(two.second)
 }
 
 fn both(g: Hull, h: Hull) -> Hull
@@ -110,55 +60,25 @@ fn both(g: Hull, h: Hull) -> Hull
     }
 }
 
-/// The edge with these ends stands wholly to the left of the box.
-pub(crate) fn misses(f: Bundle, h: Hull) -> bool
-    ensures { result ≡ misses f h }
+/// The edge stands wholly to the left of the box, or ends below it.
+pub(crate) fn misses(s: Slope, h: Hull) -> bool
+    ensures { result ≡ misses s h }
 {
-    is_below(Two {
-        first: twice(f.low.x),
-        second: h.left,
-    }) && is_below(Two {
-        first: twice(f.high.x),
-        second: h.left,
-    })
+    (s.right < h.left) | (s.high <= h.low)
 }
 
-fn spans(f: Bundle, h: Hull) -> bool
-    ensures { result ≡ (int_le (f.low.y +ℤ f.low.y) h.low && int_lt h.high (f.high.y +ℤ f.high.y)) }
+/// The edge reaches each height of the box, and stands wholly to its right.
+pub(crate) fn takes(s: Slope, h: Hull) -> bool
+    ensures { result ≡ takes s h }
 {
-    is_at_most(Two {
-        first: twice(f.low.y),
-        second: h.low,
-    }) && is_below(Two {
-        first: h.high,
-        second: twice(f.high.y),
-    })
-}
-
-fn ends_right(f: Bundle, h: Hull) -> bool
-    ensures { result ≡ (int_lt h.right (f.low.x +ℤ f.low.x) && int_lt h.right (f.high.x +ℤ f.high.x)) }
-{
-    is_below(Two {
-        first: h.right,
-        second: twice(f.low.x),
-    }) && is_below(Two {
-        first: h.right,
-        second: twice(f.high.x),
-    })
-}
-
-/// The edge with these ends reaches each height of the box, and stands wholly to its right.
-pub(crate) fn takes(f: Bundle, h: Hull) -> bool
-    ensures { result ≡ takes f h }
-{
-    spans(f, h) && ends_right(f, h)
+    (s.low <= h.low) & (h.high < s.high) & (h.right < s.left)
 }
 
 // A box round the midpoints from `from` on, up to `width` of them.
 fn hull_from(rays: &[Ray], from: usize, width: usize) -> Hull
     requires within { from < length rays.now }
     requires few { length rays.now ≤ 100000 }
-    requires narrow { width ≤ 128 }
+    requires narrow { width ≤ 256 }
     ensures { IsHull result rays.now from width }
 {
     let mut hull = hull_of(rays[from].bundle);
@@ -179,7 +99,7 @@ fn push_hull(hulls: &mut Vec<Hull>, h: Hull) -> Result<(), NoMemory>
 pub(crate) fn hulls_of(alloc: Global, rays: &[Ray], width: usize) -> Result<Vec<Hull>, NoMemory>
     requires few { length rays.now ≤ 100000 }
     requires some { 0 < width }
-    requires narrow { width ≤ 128 }
+    requires narrow { width ≤ 256 }
     ensures { IfOk result (λ hulls. AreHulls width hulls.items rays.now) }
 {
     let mut hulls = Vec::with_capacity(alloc, rays.len() / width + 1)?;

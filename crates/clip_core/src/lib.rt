@@ -13,6 +13,7 @@ mod net_counts;
 mod outlines;
 mod raises;
 mod rays;
+mod slopes;
 mod spots;
 mod starts;
 mod strips;

@@ -2,13 +2,14 @@
 // left to right, so that each edge finds those whose rays it can meet in one stretch of the list; and neighbours
 // have boxes round their midpoints, so that a tall edge passes over many of them at once.
 
-ghost use Rattle.std.specs.Prelude.{◌≡◌, ◌+◌, ◌-◌, ◌*◌, ◌/◌, ◌<◌, ◌≤◌, ◌^◌, ◌&&◌, ◌++◌, ℕ, pos, ◌+ℤ◌, ◌≤ℤ◌, true, List, [], length, cond, nat_lt, nat_le, slice_index_or, IfOk};
+ghost use Rattle.std.specs.Prelude.{◌≡◌, ◌+◌, ◌-◌, ◌*◌, ◌/◌, ◌<◌, ◌≤◌, ◌^◌, ◌++◌, ℕ, pos, ◌+ℤ◌, ◌≤ℤ◌, true, List, [], length, cond, nat_lt, nat_le, slice_index_or, IfOk};
 ghost use Rattle.std.specs.List.{All};
 ghost use Rattle.clip_core.specs.Bundles.{bundle_of};
-ghost use Rattle.clip_core.specs.Windings.{share_of, none, plus, reaches, stands_right};
+ghost use Rattle.clip_core.specs.Windings.{share_of, none};
 ghost use Rattle.clip_core.specs.Inner.Small.{AreSmall};
-ghost use Rattle.clip_core.specs.Inner.Rays.{strip_of, strip_at, twice_middle, is_under, is_up_to, meets_ray, ray_with};
+ghost use Rattle.clip_core.specs.Inner.Rays.{strip_of, strip_at, twice_middle, is_under, is_up_to, ray_with};
 ghost use Rattle.clip_core.specs.Inner.Rays.{AreRising, IsKeyed, IsSmallRay, IsBareOf, IsBare, IsRayOf, IsTold, HaveRays};
+ghost use Rattle.clip_core.specs.Inner.Slopes.{IsSlope};
 ghost use Rattle.clip_core.specs.Inner.Hulls.{IsHull, AreHulls};
 ghost use Rattle.clip_core.specs.Inner.Spots.{IsSpotOf, IsRayAt, AreAt};
 ghost use Rattle.clip_core.specs.Inner.Starts.{AreFirsts};
@@ -16,12 +17,13 @@ ghost use Rattle.clip_core.specs.Inner.Raises.{AllSmall, Adds, AreWith, AreFull}
 ghost use Rattle.clip_core.specs.declared.windings.Windings.{Windings};
 
 use crate::bundles::{Bundle, bundle_of};
-use crate::hulls::{Hull, hull_of, hulls_of, misses, takes};
+use crate::hulls::{Hull, hulls_of, misses, takes};
 use crate::raises::{lift, raise};
+use crate::slopes::{Slope, meets_ray, slope_of};
 use crate::spots::{Spot, sorted_spots};
 use crate::starts::{Starts, first_up, starts_of};
-use crate::strips::{strip_height, strip_of};
-use crate::windings::{Windings, add_if, is_level, nones, reaches, share, stands_right};
+use crate::strips::{strip_bits, strip_of};
+use crate::windings::{Windings, add_if, is_level, nones, share};
 use edge_cut::Marked;
 use slice_base::NoMemory;
 use std::alloc::Global;
@@ -35,29 +37,31 @@ pub(crate) struct Ray {
     pub(crate) sum: Windings,
 }
 
-// An edge's ends, the low one and the high one, what it counts, and the strips of its ends.
+// An edge's slope, what it counts, and the strips of its ends.
 #[derive(Clone, Copy)]
 struct Member {
-    ends: Bundle,
+    slope: Slope,
     share: Windings,
     first: u64,
     last: u64,
 }
 
-fn member_of(m: Marked, high: u64) -> Member
-    requires { 4 ≤ high }
-    ensures ends { result.ends ≡ bundle_of m.edge }
+fn member_of(m: Marked, bits: u32) -> Member
+    requires bits_from { 2 ≤ bits }
+    requires bits_to { bits ≤ 40 }
+    ensures ends { result.slope.ends ≡ bundle_of m.edge }
+    ensures slope { IsSlope result.slope }
     ensures share { result.share ≡ share_of m }
     ensures small { AreSmall 1 result.share }
-    ensures first { result.first ≡ strip_of high (result.ends.low.y +ℤ result.ends.low.y) }
-    ensures last { result.last ≡ strip_of high (result.ends.high.y +ℤ result.ends.high.y) }
+    ensures first { result.first ≡ strip_of bits (result.slope.ends.low.y +ℤ result.slope.ends.low.y) }
+    ensures last { result.last ≡ strip_of bits (result.slope.ends.high.y +ℤ result.slope.ends.high.y) }
 {
     let ends = bundle_of(m.edge);
     Member {
-        ends,
+        slope: slope_of(ends),
         share: share(m),
-        first: strip_of(ends.low.y, ends.low.y, high),
-        last: strip_of(ends.high.y, ends.high.y, high),
+        first: strip_of(ends.low.y, ends.low.y, bits),
+        last: strip_of(ends.high.y, ends.high.y, bits),
     }
 }
 
@@ -80,27 +84,14 @@ fn is_up_to(strip: u64, r: Ray) -> bool
     strip_at(r) <= strip
 }
 
-// Most are told by their boxes, without a product.
-fn meets_ray(f: Bundle, b: Bundle) -> bool
-    ensures { result ≡ meets_ray f b }
-{
-    let at = hull_of(b);
-    if misses(f, at) {
-        return false;
-    }
-    if takes(f, at) {
-        return true;
-    }
-    reaches(f, b) && stands_right(f, b)
-}
-
 fn ray_with(m: Member, r: Ray) -> Ray
+    requires slope { IsSlope m.slope }
     requires share_small { AreSmall 1 m.share }
     requires ray_small { IsSmallRay (2 ^ 62) r }
-    ensures { result ≡ ray_with m.ends m.share r }
+    ensures { result ≡ ray_with m.slope.ends m.share r }
 {
     Ray {
-        sum: add_if(r.sum, meets_ray(m.ends, r.bundle), m.share),
+        sum: add_if(r.sum, meets_ray(m.slope, r.bundle), m.share),
         ..r
     }
 }
@@ -119,26 +110,27 @@ fn add_hull(
     requires within { end ≤ length rays.now }
     requires enough { length raises.old.items ≡ length rays.now + 1 }
     requires is_hull { IsHull hull rays.now i (end - i) }
+    requires slope { IsSlope m.slope }
     requires share_small { AreSmall 1 m.share }
     requires small { All (AreSmall (2 ^ 61)) raises.old.items }
     ensures later { i ≤ result }
     ensures within { result ≤ length rays.now }
-    ensures exact { Adds m.ends m.share i result rays.now raises.old.items rays.now raises.new.items }
+    ensures exact { Adds m.slope.ends m.share i result rays.now raises.old.items rays.now raises.new.items }
 {
-    if misses(m.ends, hull) {
+    if misses(m.slope, hull) {
         return end;
     }
-    if takes(m.ends, hull) {
+    if takes(m.slope, hull) {
         raise(raises, i, end, m.share);
         return end;
     }
     i
 }
 
-// How many neighbours have a box, and how many a great one: of 100,000 rays a tall edge sees some 800 boxes.
-const NARROW: usize = 8;
+// How many neighbours have a box, and how many a great one: of 100,000 rays a tall edge sees some 400 boxes.
+const NARROW: usize = 16;
 
-const WIDE: usize = 128;
+const WIDE: usize = 256;
 
 fn add_narrow(
     rays: &[Ray],
@@ -150,12 +142,13 @@ fn add_narrow(
     requires inside { i < length rays.now }
     requires few { length rays.now ≤ 100000 }
     requires enough { length raises.old.items ≡ length rays.now + 1 }
-    requires hulls { AreHulls 8 hulls.now rays.now }
+    requires hulls { AreHulls 16 hulls.now rays.now }
+    requires slope { IsSlope m.slope }
     requires share_small { AreSmall 1 m.share }
     requires small { All (AreSmall (2 ^ 61)) raises.old.items }
     ensures later { i ≤ result }
     ensures within { result ≤ length rays.now }
-    ensures exact { Adds m.ends m.share i result rays.now raises.old.items rays.now raises.new.items }
+    ensures exact { Adds m.slope.ends m.share i result rays.now raises.old.items rays.now raises.new.items }
 {
     if i % NARROW == 0 {
         let end = rays.len().min(i + NARROW);
@@ -168,12 +161,13 @@ fn add_wide(rays: &[Ray], raises: &mut Vec<Windings>, hulls: &[Hull], i: usize, 
     requires inside { i < length rays.now }
     requires few { length rays.now ≤ 100000 }
     requires enough { length raises.old.items ≡ length rays.now + 1 }
-    requires hulls { AreHulls 128 hulls.now rays.now }
+    requires hulls { AreHulls 256 hulls.now rays.now }
+    requires slope { IsSlope m.slope }
     requires share_small { AreSmall 1 m.share }
     requires small { All (AreSmall (2 ^ 61)) raises.old.items }
     ensures later { i ≤ result }
     ensures within { result ≤ length rays.now }
-    ensures exact { Adds m.ends m.share i result rays.now raises.old.items rays.now raises.new.items }
+    ensures exact { Adds m.slope.ends m.share i result rays.now raises.old.items rays.now raises.new.items }
 {
     if i % WIDE == 0 {
         let end = rays.len().min(i + WIDE);
@@ -185,28 +179,29 @@ fn add_wide(rays: &[Ray], raises: &mut Vec<Windings>, hulls: &[Hull], i: usize, 
 // Adds the edge to the ray at `i`.
 fn add_one(rays: &mut Vec<Ray>, i: usize, m: Member)
     requires inside { i < length rays.old.items }
+    requires slope { IsSlope m.slope }
     requires share_small { AreSmall 1 m.share }
     requires small { All (IsSmallRay (2 ^ 62)) rays.old.items }
-    ensures { (raises : List Windings) → Adds m.ends m.share i (i + 1) rays.old.items raises rays.new.items raises }
+    ensures { (raises : List Windings) → Adds m.slope.ends m.share i (i + 1) rays.old.items raises rays.new.items raises }
 {
     rays[i] = ray_with(m, rays[i]);
 }
 
-// Adds the edge to the ray at `i` and to those behind it, up to the next box, or to where they stand above the edge.
+// Adds the edge to the ray at `i` and to those behind it, up to the next box.
 fn add_each(rays: &mut Vec<Ray>, i: usize, m: Member) -> usize
     requires inside { i < length rays.old.items }
     requires few { length rays.old.items ≤ 100000 }
+    requires slope { IsSlope m.slope }
     requires share_small { AreSmall 1 m.share }
     requires small { All (IsSmallRay (2 ^ 60 + i)) rays.old.items }
     ensures later { i < result }
     ensures within { result ≤ length rays.new.items }
     ensures exact { (raises : List Windings)
-        → Adds m.ends m.share i result rays.old.items raises rays.new.items raises }
+        → Adds m.slope.ends m.share i result rays.old.items raises rays.new.items raises }
 {
     let end = rays.len().min(i - i % NARROW + NARROW);
-    add_one(rays, i, m);
-    let mut k = i + 1;
-    'rest: while k < end && is_up_to(m.last, rays[k]) {
+    let mut k = i;
+    'rest: while k < end {
         add_one(rays, k, m);
         k += 1;
     }
@@ -226,13 +221,14 @@ fn add_from(
     requires inside { i < length rays.old.items }
     requires few { length rays.old.items ≤ 100000 }
     requires enough { length raises.old.items ≡ length rays.old.items + 1 }
-    requires wide { AreHulls 128 wide.now rays.old.items }
-    requires narrow { AreHulls 8 narrow.now rays.old.items }
+    requires wide { AreHulls 256 wide.now rays.old.items }
+    requires narrow { AreHulls 16 narrow.now rays.old.items }
+    requires slope { IsSlope m.slope }
     requires share_small { AreSmall 1 m.share }
     requires small { AllSmall (2 ^ 60 + i) rays.old.items raises.old.items }
     ensures later { i < result }
     ensures within { result ≤ length rays.new.items }
-    ensures exact { Adds m.ends m.share i result rays.old.items raises.old.items rays.new.items raises.new.items }
+    ensures exact { Adds m.slope.ends m.share i result rays.old.items raises.old.items rays.new.items raises.new.items }
 {
     let end = add_wide(rays.as_slice(), raises, wide, i, m);
     if end > i {
@@ -252,17 +248,18 @@ fn add_edge(
     wide: &[Hull],
     narrow: &[Hull],
     starts: &Starts,
-    high: u64,
+    bits: u32,
     m: Marked,
 )
     requires few { length rays.old.items ≤ 100000 }
     requires enough { length raises.old.items ≡ length rays.old.items + 1 }
-    requires wide { AreHulls 128 wide.now rays.old.items }
-    requires narrow { AreHulls 8 narrow.now rays.old.items }
+    requires wide { AreHulls 256 wide.now rays.old.items }
+    requires narrow { AreHulls 16 narrow.now rays.old.items }
     requires starts { AreFirsts starts.now.base starts.now.firsts.items rays.old.items }
-    requires tall { 4 ≤ high }
+    requires bits_from { 2 ≤ bits }
+    requires bits_to { bits ≤ 40 }
     requires rising { AreRising rays.old.items }
-    requires keyed { All (IsKeyed high) rays.old.items }
+    requires keyed { All (IsKeyed bits) rays.old.items }
     requires small { AllSmall (2 ^ 60) rays.old.items raises.old.items }
     ensures count { length rays.new.items ≡ length rays.old.items }
     ensures raises_count { length raises.new.items ≡ length raises.old.items }
@@ -271,8 +268,8 @@ fn add_edge(
     ensures small { (n : ℕ) → AllSmall n rays.old.items raises.old.items
         → AllSmall (n + 100000) rays.new.items raises.new.items }
 {
-    let member = member_of(m, high);
-    if is_level(member.ends) {
+    let member = member_of(m, bits);
+    if is_level(member.slope.ends) {
         return;
     }
     let mut i = first_up(starts, member.first);
@@ -287,19 +284,20 @@ fn add_edges(
     wide: &[Hull],
     narrow: &[Hull],
     starts: &Starts,
-    high: u64,
+    bits: u32,
     all: &[Marked],
 )
     requires few { length all.now ≤ 100000 }
     requires rays_few { length rays.old.items ≤ 100000 }
     requires enough { length raises.old.items ≡ length rays.old.items + 1 }
     requires flat { All (λ w. w ≡ none) raises.old.items }
-    requires wide { AreHulls 128 wide.now rays.old.items }
-    requires narrow { AreHulls 8 narrow.now rays.old.items }
+    requires wide { AreHulls 256 wide.now rays.old.items }
+    requires narrow { AreHulls 16 narrow.now rays.old.items }
     requires starts { AreFirsts starts.now.base starts.now.firsts.items rays.old.items }
-    requires tall { 4 ≤ high }
+    requires bits_from { 2 ≤ bits }
+    requires bits_to { bits ≤ 40 }
     requires rising { AreRising rays.old.items }
-    requires keyed { All (IsKeyed high) rays.old.items }
+    requires keyed { All (IsKeyed bits) rays.old.items }
     requires bare { All IsBare rays.old.items }
     ensures count { length rays.new.items ≡ length rays.old.items }
     ensures raises_count { length raises.new.items ≡ length raises.old.items }
@@ -307,7 +305,7 @@ fn add_edges(
     ensures small { AllSmall (2 ^ 40) rays.new.items raises.new.items }
 {
     for m in all {
-        add_edge(rays, raises, wide, narrow, starts, high, *m);
+        add_edge(rays, raises, wide, narrow, starts, bits, *m);
     }
 }
 
@@ -328,9 +326,9 @@ fn ray_from(bundle: Bundle, spot: Spot) -> Ray
 }
 
 // The ray of the bundle at the spot's index.
-fn ray_of(bundles: &[Bundle], spot: Spot, high: u64) -> Ray
-    requires { IsSpotOf high bundles.now spot }
-    ensures of_bundle { IsBareOf high bundles.now result }
+fn ray_of(bundles: &[Bundle], spot: Spot, bits: u32) -> Ray
+    requires { IsSpotOf bits bundles.now spot }
+    ensures of_bundle { IsBareOf bits bundles.now result }
     ensures at { IsRayAt spot result }
 {
     ray_from(bundles[spot.index as usize], spot)
@@ -340,29 +338,30 @@ fn rays_from(
     alloc: Global,
     bundles: &[Bundle],
     spots: &[Spot],
-    high: u64,
+    bits: u32,
 ) -> Result<Vec<Ray>, NoMemory>
-    requires { All (IsSpotOf high bundles.now) spots.now }
-    ensures are { IfOk result (λ rays. All (IsBareOf high bundles.now) rays.items) }
+    requires { All (IsSpotOf bits bundles.now) spots.now }
+    ensures are { IfOk result (λ rays. All (IsBareOf bits bundles.now) rays.items) }
     ensures at { IfOk result (λ rays. AreAt spots.now rays.items) }
 {
     let mut rays = Vec::with_capacity(alloc, spots.len())?;
     for k in 0..spots.len() {
-        rays.push(ray_of(bundles, spots[k], high))?;
+        rays.push(ray_of(bundles, spots[k], bits))?;
     }
     Ok(rays)
 }
 
-fn sorted_rays(alloc: Global, bundles: &[Bundle], high: u64) -> Result<Vec<Ray>, NoMemory>
+fn sorted_rays(alloc: Global, bundles: &[Bundle], bits: u32) -> Result<Vec<Ray>, NoMemory>
     requires few { length bundles.now ≤ 100000 }
-    requires tall { 4 ≤ high }
+    requires bits_from { 2 ≤ bits }
+    requires bits_to { bits ≤ 40 }
     ensures count { IfOk result (λ rays. length rays.items ≡ length bundles.now) }
-    ensures are { IfOk result (λ rays. All (IsBareOf high bundles.now) rays.items) }
+    ensures are { IfOk result (λ rays. All (IsBareOf bits bundles.now) rays.items) }
     ensures each { IfOk result (λ rays. HaveRays bundles.now rays.items) }
     ensures rising { IfOk result (λ rays. AreRising rays.items) }
 {
-    let spots = sorted_spots(alloc, bundles, high)?;
-    let rays = rays_from(alloc, bundles, spots.as_slice(), high)?;
+    let spots = sorted_spots(alloc, bundles, bits)?;
+    let rays = rays_from(alloc, bundles, spots.as_slice(), bits)?;
     Ok(rays)
 }
 
@@ -377,8 +376,8 @@ pub(crate) fn rays_of(
     ensures told { IfOk result (λ rays. All (IsTold all.now bundles.now) rays.items) }
     ensures each { IfOk result (λ rays. HaveRays bundles.now rays.items) }
 {
-    let high = strip_height(bundles);
-    let mut rays = sorted_rays(alloc, bundles, high)?;
+    let bits = strip_bits(bundles);
+    let mut rays = sorted_rays(alloc, bundles, bits)?;
     let wide = hulls_of(alloc, rays.as_slice(), WIDE)?;
     let narrow = hulls_of(alloc, rays.as_slice(), NARROW)?;
     let starts = starts_of(alloc, rays.as_slice())?;
@@ -389,7 +388,7 @@ pub(crate) fn rays_of(
         wide.as_slice(),
         narrow.as_slice(),
         &starts,
-        high,
+        bits,
         all,
     );
     lift(&mut rays, raises.as_slice());

@@ -17,28 +17,30 @@ pub(crate) struct Spot {
     pub(crate) index: u32,
 }
 
-fn spot_from(bundle: Bundle, index: usize, high: u64) -> Spot
+fn spot_from(bundle: Bundle, index: usize, bits: u32) -> Spot
     requires few { index < 100000 }
-    requires tall { 4 ≤ high }
-    ensures keyed { result.key / 8589934592 ≡ strip_of high (twice_middle bundle) }
+    requires bits_from { 2 ≤ bits }
+    requires bits_to { bits ≤ 40 }
+    ensures keyed { result.key / 8589934592 ≡ strip_of bits (twice_middle bundle) }
     ensures index { result.index ≡ index }
 {
     Spot {
-        key: key_of(bundle, high),
+        key: key_of(bundle, bits),
         index: index as u32,
     }
 }
 
-fn spots_from(alloc: Global, bundles: &[Bundle], high: u64) -> Result<Vec<Spot>, NoMemory>
+fn spots_from(alloc: Global, bundles: &[Bundle], bits: u32) -> Result<Vec<Spot>, NoMemory>
     requires few { length bundles.now ≤ 100000 }
-    requires tall { 4 ≤ high }
+    requires bits_from { 2 ≤ bits }
+    requires bits_to { bits ≤ 40 }
     ensures count { IfOk result (λ spots. length spots.items ≡ length bundles.now) }
-    ensures are { IfOk result (λ spots. All (IsSpotOf high bundles.now) spots.items) }
+    ensures are { IfOk result (λ spots. All (IsSpotOf bits bundles.now) spots.items) }
     ensures numbered { IfOk result (λ spots. AreNumbered spots.items) }
 {
     let mut spots = Vec::with_capacity(alloc, bundles.len())?;
     for index in 0..bundles.len() {
-        spots.push(spot_from(bundles[index], index, high))?;
+        spots.push(spot_from(bundles[index], index, bits))?;
     }
     Ok(spots)
 }
@@ -47,16 +49,17 @@ fn spots_from(alloc: Global, bundles: &[Bundle], high: u64) -> Result<Vec<Spot>,
 pub(crate) fn sorted_spots(
     alloc: Global,
     bundles: &[Bundle],
-    high: u64,
+    bits: u32,
 ) -> Result<Vec<Spot>, NoMemory>
     requires few { length bundles.now ≤ 100000 }
-    requires tall { 4 ≤ high }
+    requires bits_from { 2 ≤ bits }
+    requires bits_to { bits ≤ 40 }
     ensures count { IfOk result (λ spots. length spots.items ≡ length bundles.now) }
-    ensures are { IfOk result (λ spots. All (IsSpotOf high bundles.now) spots.items) }
+    ensures are { IfOk result (λ spots. All (IsSpotOf bits bundles.now) spots.items) }
     ensures each { IfOk result (λ spots. HaveSpots bundles.now spots.items) }
     ensures rising { IfOk result (λ spots. AreRising spots.items) }
 {
-    let mut spots = spots_from(alloc, bundles, high)?;
+    let mut spots = spots_from(alloc, bundles, bits)?;
     spots.sort_unstable_by_key(|s| s.key);
     Ok(spots)
 }

@@ -15,20 +15,22 @@ fn above_least(p: i32, q: i32) -> u64
 }
 
 /// The strip that holds the height between two.
-pub(crate) fn strip_of(p: i32, q: i32, high: u64) -> u64
-    requires { 4 ≤ high }
-    ensures exact { result ≡ strip_of high (p +ℤ q) }
+pub(crate) fn strip_of(p: i32, q: i32, bits: u32) -> u64
+    requires bits_from { 2 ≤ bits }
+    requires bits_to { bits ≤ 40 }
+    ensures exact { result ≡ strip_of bits (p +ℤ q) }
     ensures small { result < 2147483648 }
 {
-    above_least(p, q) / high
+    above_least(p, q) >> bits
 }
 
 /// Orders by the strip of the bundle's midpoint, and then by how far across it stands.
-pub(crate) fn key_of(b: Bundle, high: u64) -> u64
-    requires { 4 ≤ high }
-    ensures { result / 8589934592 ≡ strip_of high (twice_middle b) }
+pub(crate) fn key_of(b: Bundle, bits: u32) -> u64
+    requires bits_from { 2 ≤ bits }
+    requires bits_to { bits ≤ 40 }
+    ensures { result / 8589934592 ≡ strip_of bits (twice_middle b) }
 {
-    strip_of(b.low.y, b.high.y, high) * 8_589_934_592 + above_least(b.low.x, b.high.x)
+    strip_of(b.low.y, b.high.y, bits) * 8_589_934_592 + above_least(b.low.x, b.high.x)
 }
 
 // The height of all of them together.
@@ -45,19 +47,19 @@ fn extent(bundles: &[Bundle]) -> u64 {
     u64::from(high.abs_diff(low))
 }
 
-/// How high strips are: a part of what edges are on average, so that most of them reach few strips, but so high that
-/// there are at most some eight to a bundle. Any height is right.
-pub(crate) fn strip_height(bundles: &[Bundle]) -> u64
-    ensures { 4 ≤ result }
+/// Strips are two to this power high, so that a shift tells them: a part of what edges are on average, so that most of
+/// them reach few strips, but so high that there are at most some eight to a bundle. Any height is right.
+pub(crate) fn strip_bits(bundles: &[Bundle]) -> u32
+    ensures least { 2 ≤ result }
+    ensures most { result ≤ 40 }
 {
     let mut heights = 0u64;
     for b in bundles {
         heights = heights.saturating_add(u64::from(b.high.y.abs_diff(b.low.y)));
     }
     let count = bundles.len() as u64;
-    part(heights, count, 16)
-        .max(part(extent(bundles), count, 4))
-        .max(4)
+    let height = part(heights, count, 16).max(part(extent(bundles), count, 4));
+    (64 - height.leading_zeros()).clamp(2, 40)
 }
 
 // This part of an average: of a doubled height it is the half of that.

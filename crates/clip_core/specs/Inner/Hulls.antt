@@ -1,19 +1,18 @@
 -- Boxes round midpoints, all numbers doubled.
-use Rattle.std.specs.Prelude.{ℕ, ◌+◌, ◌*◌, ◌+ℤ◌, ◌≤◌, ◌<◌, ◌≤ℤ◌, Bool, ◌&&◌, int_lt, int_le, List, length, slice_index_or}
+use Rattle.std.specs.Prelude.{ℕ, ◌+◌, ◌*◌, ◌≤◌, ◌<◌, ◌≤ℤ◌, Bool, ◌&&◌, ◌||◌, int_lt, int_le, List, length, slice_index_or}
 use Rattle.clip_core.specs.declared.bundles.Bundle.{Bundle}
+use Rattle.clip_core.specs.declared.slopes.Slope.{Slope}
 use Rattle.clip_core.specs.declared.hulls.Hull.{Hull}
 use Rattle.clip_core.specs.declared.rays.Ray.{Ray}
 use Rattle.clip_core.specs.Inner.Rays.{twice_middle, twice_across}
 
--- the edge with these ends stands wholly to the left of the box
-abbrev pub misses : Bundle → Hull → Bool
-misses f h = int_lt (f.low.x +ℤ f.low.x) h.left && int_lt (f.high.x +ℤ f.high.x) h.left
+-- the edge stands wholly to the left of the box, or ends below it
+abbrev pub misses : Slope → Hull → Bool
+misses s h = int_lt s.right h.left || int_le s.high h.low
 
--- the edge with these ends reaches each height of the box, and stands wholly to its right
-abbrev pub takes : Bundle → Hull → Bool
-takes f h =
-    (int_le (f.low.y +ℤ f.low.y) h.low && int_lt h.high (f.high.y +ℤ f.high.y))
-    && (int_lt h.right (f.low.x +ℤ f.low.x) && int_lt h.right (f.high.x +ℤ f.high.x))
+-- the edge reaches each height of the box, and stands wholly to its right
+abbrev pub takes : Slope → Hull → Bool
+takes s h = (int_le s.low h.low && int_lt h.high s.high) && int_lt h.right s.left
 
 -- the bundle's midpoint lies in the box
 pub record IsIn (h : Hull) (b : Bundle) : Type 0 where

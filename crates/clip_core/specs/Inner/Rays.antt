@@ -1,5 +1,5 @@
 -- Bundles with their winding sums, as far as edges were added to them.
-use Rattle.std.specs.Prelude.{ℕ, ℤ, pos, ◌≡◌, ◌/◌, ◌+ℤ◌, ◌≤◌, ◌<◌, Bool, cond, ◌&&◌, int_le, nat_lt, nat_le, List, length, slice_index_or, unsigned_abs}
+use Rattle.std.specs.Prelude.{ℕ, ℤ, pos, ◌≡◌, ◌/◌, ◌^◌, ◌+ℤ◌, ◌≤◌, ◌<◌, Bool, cond, ◌&&◌, int_le, nat_lt, nat_le, List, length, slice_index_or, unsigned_abs}
 use Rattle.slice_base.specs.Plane.{cross_of}
 use Rattle.edge_cut.specs.declared.passes.Marked.{Marked}
 use Rattle.clip_core.specs.declared.bundles.Bundle.{Bundle}
@@ -28,9 +28,9 @@ twice_across b = b.low.x +ℤ b.high.x
 abbrev pub above_least : ℤ → ℕ
 above_least z = cond (int_le (pos 0) (z +ℤ pos 4294967296)) (unsigned_abs (z +ℤ pos 4294967296)) 0
 
--- the strip that holds a doubled height, where strips are `high` high, also doubled
+-- the strip that holds a doubled height, where strips are two to this power high, also doubled
 abbrev pub strip_of : ℕ → ℤ → ℕ
-strip_of high z = above_least z / high
+strip_of bits z = above_least z / 2 ^ bits
 
 -- the strip that a ray's key begins with: what is left of the key orders by how far across
 abbrev pub strip_at : Ray → ℕ
@@ -63,7 +63,7 @@ AreRising rays = (i j : ℕ) (d : Ray) → i ≤ j → j < length rays
 
 -- the key begins with the strip of the midpoint
 abbrev pub IsKeyed : ℕ → Ray → Type 0
-IsKeyed high r = strip_at r ≡ strip_of high (twice_middle r.bundle)
+IsKeyed bits r = strip_at r ≡ strip_of bits (twice_middle r.bundle)
 
 -- no number of the sum is beyond n
 abbrev pub IsSmallRay : ℕ → Ray → Type 0
@@ -86,9 +86,9 @@ pub record IsRayOf (bundles : List Bundle) (r : Ray) : Type 0 where
   pub is : r.bundle ≡ slice_index_or bundles r.index nowhere
 
 -- the same before any edge was added, with its key
-pub record IsBareOf (high : ℕ) (bundles : List Bundle) (r : Ray) : Type 0 where
+pub record IsBareOf (bits : ℕ) (bundles : List Bundle) (r : Ray) : Type 0 where
   pub of_bundle : IsRayOf bundles r
-  pub keyed : IsKeyed high r
+  pub keyed : IsKeyed bits r
   pub bare : IsBare r
 
 -- the ray is that of the bundle at its index, with all these edges

@@ -10,9 +10,9 @@ abbrev pub no_spot : Spot
 no_spot = record { key = 0; index = 0 }
 
 -- the key begins with the strip of the midpoint of the bundle at the index
-pub record IsSpotOf (high : ℕ) (bundles : List Bundle) (s : Spot) : Type 0 where
+pub record IsSpotOf (bits : ℕ) (bundles : List Bundle) (s : Spot) : Type 0 where
   pub within : s.index < length bundles
-  pub keyed : s.key / 8589934592 ≡ strip_of high (twice_middle (slice_index_or bundles s.index nowhere))
+  pub keyed : s.key / 8589934592 ≡ strip_of bits (twice_middle (slice_index_or bundles s.index nowhere))
 
 -- each spot has the index of its own place
 abbrev pub AreNumbered : List Spot → Type 0

@@ -20,7 +20,7 @@ returns-then-is_level c =
     record {
       count = refl;
       raises_count = refl;
-      exact = as-marked m.ends (bundle_of c.args.m.edge) m.share (share_of c.args.m) rays rays raises raises c.member_of-member.ensures.ends c.member_of-member.ensures.share (level-with m.ends m.share rays raises (sym c.is_level.ensures ∙ c.if-is_level.true));
+      exact = as-marked m.slope.ends (bundle_of c.args.m.edge) m.share (share_of c.args.m) rays rays raises raises c.member_of-member.ensures.ends c.member_of-member.ensures.share (level-with m.slope.ends m.share rays raises (sym c.is_level.ensures ∙ c.if-is_level.true));
       small = λ n a. all-wider n (n + 100000) rays raises (omega arith) a;
     }
 
@@ -31,7 +31,7 @@ walk-init c =
     let first = c.first_up-i.ensures rays c.requires.starts in
     record {
       within = first.within;
-      adds = adds-under m.ends m.share c.args.high m.first c.first_up-i.result rays c.args.raises.now.items c.member_of-member.ensures.first c.requires.keyed first.before;
+      adds = adds-under m.slope.ends m.share c.args.bits m.first c.first_up-i.result rays c.args.raises.now.items c.member_of-member.ensures.first c.requires.keyed first.before;
     }
 
 pub walk-preserved : goal.walk-preserved
@@ -40,20 +40,20 @@ walk-preserved c =
     let m = c.member_of-member.result in
     record {
       within = c.add_from-i.ensures.within;
-      adds = adds-both m.ends m.share 0 c.walk.i c.add_from-i.result c.args.rays.now.items c.walk.rays.items c.add_from-i.new.rays.items c.args.raises.now.items c.walk.raises.items c.add_from-i.new.raises.items (omega arith) (omega (arith, c.add_from-i.ensures.later)) h.adds c.add_from-i.ensures.exact;
+      adds = adds-both m.slope.ends m.share 0 c.walk.i c.add_from-i.result c.args.rays.now.items c.walk.rays.items c.add_from-i.new.rays.items c.args.raises.now.items c.walk.raises.items c.add_from-i.new.raises.items (omega arith) (omega (arith, c.add_from-i.ensures.later)) h.adds c.add_from-i.ensures.exact;
     }
 
 pub add_from-i-requires-clause-wide : goal.add_from-i-requires-clause-wide
 add_from-i-requires-clause-wide c =
     let h = c.walk.invariant in
     let m = c.member_of-member.result in
-    hulls-stay 128 c.args.wide.now c.args.rays.now.items c.walk.rays.items h.adds.count (adds-bundle m.ends m.share 0 c.walk.i c.args.rays.now.items c.walk.rays.items c.args.raises.now.items c.walk.raises.items h.adds) c.requires.wide
+    hulls-stay 256 c.args.wide.now c.args.rays.now.items c.walk.rays.items h.adds.count (adds-bundle m.slope.ends m.share 0 c.walk.i c.args.rays.now.items c.walk.rays.items c.args.raises.now.items c.walk.raises.items h.adds) c.requires.wide
 
 pub add_from-i-requires-clause-narrow : goal.add_from-i-requires-clause-narrow
 add_from-i-requires-clause-narrow c =
     let h = c.walk.invariant in
     let m = c.member_of-member.result in
-    hulls-stay 8 c.args.narrow.now c.args.rays.now.items c.walk.rays.items h.adds.count (adds-bundle m.ends m.share 0 c.walk.i c.args.rays.now.items c.walk.rays.items c.args.raises.now.items c.walk.raises.items h.adds) c.requires.narrow
+    hulls-stay 16 c.args.narrow.now c.args.rays.now.items c.walk.rays.items h.adds.count (adds-bundle m.slope.ends m.share 0 c.walk.i c.args.rays.now.items c.walk.rays.items c.args.raises.now.items c.walk.raises.items h.adds) c.requires.narrow
 
 pub add_from-i-requires-clause-small : goal.add_from-i-requires-clause-small
 add_from-i-requires-clause-small c = c.walk.invariant.adds.small (2 ^ 60) c.requires.small
@@ -69,9 +69,9 @@ returns-else-is_up_to c =
     record {
       count = h.adds.count;
       raises_count = h.adds.raises_count;
-      exact = as-marked m.ends (bundle_of c.args.m.edge) m.share (share_of c.args.m) rays c.walk.rays.items raises c.walk.raises.items c.member_of-member.ensures.ends c.member_of-member.ensures.share
-          (adds-whole m.ends m.share c.args.high m.last c.walk.i rays c.walk.rays.items raises c.walk.raises.items c.member_of-member.ensures.last c.requires.keyed h.adds (adds-past m.ends m.share m.last c.walk.i rays c.walk.rays.items raises c.walk.raises.items c.index.result.now c.requires.rising h.adds below over));
-      small = λ n a. whole-small n c.walk.i m.ends m.share rays c.walk.rays.items raises c.walk.raises.items h.adds (omega (arith, c.requires.few, h.adds.count, h.within)) a;
+      exact = as-marked m.slope.ends (bundle_of c.args.m.edge) m.share (share_of c.args.m) rays c.walk.rays.items raises c.walk.raises.items c.member_of-member.ensures.ends c.member_of-member.ensures.share
+          (adds-whole m.slope.ends m.share c.args.bits m.last c.walk.i rays c.walk.rays.items raises c.walk.raises.items c.member_of-member.ensures.last c.requires.keyed h.adds (adds-past m.slope.ends m.share m.last c.walk.i rays c.walk.rays.items raises c.walk.raises.items c.index.result.now c.requires.rising h.adds below over));
+      small = λ n a. whole-small n c.walk.i m.slope.ends m.share rays c.walk.rays.items raises c.walk.raises.items h.adds (omega (arith, c.requires.few, h.adds.count, h.within)) a;
     }
 
 pub returns-after-walk-clause-exact : goal.returns-after-walk-clause-exact
@@ -80,7 +80,7 @@ returns-after-walk-clause-exact c =
     let m = c.member_of-member.result in
     let rays = c.args.rays.now.items in
     let raises = c.args.raises.now.items in
-    as-marked m.ends (bundle_of c.args.m.edge) m.share (share_of c.args.m) rays c.walk.rays.items raises c.walk.raises.items c.member_of-member.ensures.ends c.member_of-member.ensures.share
+    as-marked m.slope.ends (bundle_of c.args.m.edge) m.share (share_of c.args.m) rays c.walk.rays.items raises c.walk.raises.items c.member_of-member.ensures.ends c.member_of-member.ensures.share
     (λ k d lt. h.adds.within k d (omega arith) (omega (arith, lt, c.walk-test.false, c.len.ensures)) (omega (arith, lt, h.adds.count)))
 
 pub returns-after-walk-clause-small : goal.returns-after-walk-clause-small
@@ -90,4 +90,4 @@ returns-after-walk-clause-small c n a =
     let count = h.adds.count in
     let within = h.within in
     let m = c.member_of-member.result in
-    whole-small n c.walk.i m.ends m.share c.args.rays.now.items c.walk.rays.items c.args.raises.now.items c.walk.raises.items h.adds (omega (arith, few, count, within)) a
+    whole-small n c.walk.i m.slope.ends m.share c.args.rays.now.items c.walk.rays.items c.args.raises.now.items c.walk.raises.items h.adds (omega (arith, few, count, within)) a

@@ -33,12 +33,12 @@ loop-m-preserved c =
 pub add_edge-requires-clause-wide : goal.add_edge-requires-clause-wide
 add_edge-requires-clause-wide c =
     let h = c.loop-m.invariant in
-    hulls-stay 128 c.args.wide.now c.args.rays.now.items c.loop-m.rays.items h.count (λ k d below. (h.so_far k d (omega (arith, h.count, below))).bundle) c.requires.wide
+    hulls-stay 256 c.args.wide.now c.args.rays.now.items c.loop-m.rays.items h.count (λ k d below. (h.so_far k d (omega (arith, h.count, below))).bundle) c.requires.wide
 
 pub add_edge-requires-clause-narrow : goal.add_edge-requires-clause-narrow
 add_edge-requires-clause-narrow c =
     let h = c.loop-m.invariant in
-    hulls-stay 8 c.args.narrow.now c.args.rays.now.items c.loop-m.rays.items h.count (λ k d below. (h.so_far k d (omega (arith, h.count, below))).bundle) c.requires.narrow
+    hulls-stay 16 c.args.narrow.now c.args.rays.now.items c.loop-m.rays.items h.count (λ k d below. (h.so_far k d (omega (arith, h.count, below))).bundle) c.requires.narrow
 
 pub add_edge-requires-clause-starts : goal.add_edge-requires-clause-starts
 add_edge-requires-clause-starts c =
@@ -53,7 +53,7 @@ add_edge-requires-clause-rising c =
 pub add_edge-requires-clause-keyed : goal.add_edge-requires-clause-keyed
 add_edge-requires-clause-keyed c =
     let h = c.loop-m.invariant in
-    still-keyed c.args.high c.args.rays.now.items c.loop-m.rays.items h.count (λ k d below. (h.so_far k d below).key) (λ k d below. (h.so_far k d below).bundle) c.requires.keyed
+    still-keyed c.args.bits c.args.rays.now.items c.loop-m.rays.items h.count (λ k d below. (h.so_far k d below).key) (λ k d below. (h.so_far k d below).bundle) c.requires.keyed
 
 pub add_edge-requires-clause-small : goal.add_edge-requires-clause-small
 add_edge-requires-clause-small c =

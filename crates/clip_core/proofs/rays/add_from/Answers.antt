@@ -5,11 +5,11 @@ use Rattle.clip_core.proofs.rays.add_from.Goals as goal
 pub add_narrow-end-requires-clause-small : goal.add_narrow-end-requires-clause-small
 add_narrow-end-requires-clause-small c =
     let seen = ap length c.as_slice.ensures.value in
-    next-small c.args.m.ends c.args.m.share (2 ^ 60) c.args.i c.add_wide-end.result (2 ^ 61) c.args.rays.now.items c.as_slice.result.now c.args.raises.now.items c.add_wide-end.new.raises.items c.as_slice.ensures.value c.add_wide-end.ensures.exact (omega (arith, seen, c.add_wide-end.ensures.within, c.requires.few)) c.requires.small
+    next-small c.args.m.slope.ends c.args.m.share (2 ^ 60) c.args.i c.add_wide-end.result (2 ^ 61) c.args.rays.now.items c.as_slice.result.now c.args.raises.now.items c.add_wide-end.new.raises.items c.as_slice.ensures.value c.add_wide-end.ensures.exact (omega (arith, seen, c.add_wide-end.ensures.within, c.requires.few)) c.requires.small
 
 pub returns-then-end-i-2-clause-exact : goal.returns-then-end-i-2-clause-exact
 returns-then-end-i-2-clause-exact c =
-    let f = c.args.m.ends in
+    let f = c.args.m.slope.ends in
     let s = c.args.m.share in
     let i = c.args.i in
     let rays = c.args.rays.now.items in
@@ -26,7 +26,7 @@ add_each-requires-clause-small c = c.requires.small.rays_small
 
 pub returns-clause-exact : goal.returns-clause-exact
 returns-clause-exact c =
-    let f = c.args.m.ends in
+    let f = c.args.m.slope.ends in
     let s = c.args.m.share in
     let i = c.args.i in
     let rays = c.args.rays.now.items in

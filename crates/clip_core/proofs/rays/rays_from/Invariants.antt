@@ -9,6 +9,6 @@ use Rattle.clip_core.proofs.rays.rays_from.Given as goal
 abbrev pub invariant-loop-k : goal.invariant-loop-k
 invariant-loop-k l = record {
   count : length l.rays.items ≡ l.k;
-  are : All (IsBareOf l.high l.bundles) l.rays.items;
+  are : All (IsBareOf l.bits l.bundles) l.rays.items;
   each : (k : ℕ) (d : Ray) (e : Spot) → k < length l.rays.items → IsRayAt (get_or l.spots k e) (get_or l.rays.items k d);
 }

@@ -8,7 +8,7 @@ pub returns-clause-count : goal.returns-clause-count
 returns-clause-count c = omega (arith, length_permutation c.in_ok-spots.spots.items c.sort_unstable_by_key.new.self.items c.sort_unstable_by_key.ensures.permutation, c.in_ok-spots.ensures.count)
 
 pub returns-clause-are : goal.returns-clause-are
-returns-clause-are c = All-permutation (IsSpotOf c.args.high c.args.bundles.now) c.in_ok-spots.spots.items c.sort_unstable_by_key.new.self.items c.sort_unstable_by_key.ensures.permutation c.in_ok-spots.ensures.are
+returns-clause-are c = All-permutation (IsSpotOf c.args.bits c.args.bundles.now) c.in_ok-spots.spots.items c.sort_unstable_by_key.new.self.items c.sort_unstable_by_key.ensures.permutation c.in_ok-spots.ensures.are
 
 pub returns-clause-each : goal.returns-clause-each
 returns-clause-each c = sorted-has c.args.bundles.now c.in_ok-spots.spots.items c.sort_unstable_by_key.new.self.items c.in_ok-spots.ensures.count c.in_ok-spots.ensures.numbered c.sort_unstable_by_key.ensures.permutation
