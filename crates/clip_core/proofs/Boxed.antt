@@ -15,7 +15,6 @@ use Rattle.clip_core.specs.declared.slopes.Slope.{Slope}
 use Rattle.clip_core.specs.Inner.Slopes.{IsSlope}
 use Rattle.clip_core.specs.Inner.Hulls.{misses, takes, IsIn, IsMore, IsHull, AreHulls}
 use Rattle.clip_core.specs.Inner.Raises.{lifted}
-use Rattle.slice_base.specs.Plane.{cross_of}
 use Rattle.slice_base.proofs.Rings.{diff_of, diff-eq, diff-add, diff-sub, diff-mul}
 use Rattle.clip_core.proofs.Signs.{Sign, sign, pp, pn, nn, np, z*, *z}
 use Rattle.clip_core.proofs.Tallies.{plus_assoc}
@@ -35,22 +34,59 @@ turn-sum dx dy a c x z =
 from-sum : (p q l : ℤ) → (p +ℤ q) -ℤ (l +ℤ l) ≡ (p -ℤ l) +ℤ (q -ℤ l)
 from-sum p q l = omega (arith, ints)
 
--- the same by its parts
-pub turn-is : (f b : Bundle) (p q dx uy dy ux ly lx : ℤ) → p ≡ dx *ℤ uy → q ≡ dy *ℤ ux → dx ≡ f.high.x -ℤ f.low.x → dy ≡ f.high.y -ℤ f.low.y → uy ≡ (b.low.y +ℤ b.high.y) -ℤ ly → ux ≡ (b.low.x +ℤ b.high.x) -ℤ lx → ly ≡ f.low.y +ℤ f.low.y → lx ≡ f.low.x +ℤ f.low.x
-    → p -ℤ q ≡ cross_of f.low f.high f.low b.low +ℤ cross_of f.low f.high f.low b.high
-turn-is f b p q dx uy dy ux ly lx ip iq idx idy iuy iux ily ilx =
-    let vy : uy ≡ (b.low.y -ℤ f.low.y) +ℤ (b.high.y -ℤ f.low.y) = iuy ∙ (ap (λ (t : ℤ). (b.low.y +ℤ b.high.y) -ℤ t) ily ∙ from-sum b.low.y b.high.y f.low.y) in
-    let vx : ux ≡ (b.low.x -ℤ f.low.x) +ℤ (b.high.x -ℤ f.low.x) = iux ∙ (ap (λ (t : ℤ). (b.low.x +ℤ b.high.x) -ℤ t) ilx ∙ from-sum b.low.x b.high.x f.low.x) in
-    (λ i. ip i -ℤ iq i)
-    ∙ ((λ i. (idx i *ℤ vy i) -ℤ (idy i *ℤ vx i))
-    ∙ sym (turn-sum (f.high.x -ℤ f.low.x) (f.high.y -ℤ f.low.y) (b.low.y -ℤ f.low.y) (b.high.y -ℤ f.low.y) (b.low.x -ℤ f.low.x) (b.high.x -ℤ f.low.x)))
+twice-way : (h l : ℤ) → (h +ℤ h) -ℤ (l +ℤ l) ≡ (h -ℤ l) +ℤ (h -ℤ l)
+twice-way h l = omega (arith, ints)
 
-pub reach-is : (f b : Bundle) (low at high : ℤ) → low ≡ f.low.y +ℤ f.low.y → at ≡ b.low.y +ℤ b.high.y → high ≡ f.high.y +ℤ f.high.y → (int_le low at && int_lt at high) ≡ reaches f b
-reach-is f b low at high e g h = λ i. int_le (e i) (g i) && int_lt (g i) (h i)
+-- the turn with twice the way of the edge
+twice-turn : (dx dy a x : ℤ) → ((dx +ℤ dx) *ℤ a) -ℤ ((dy +ℤ dy) *ℤ x) ≡ ((dx *ℤ a) -ℤ (dy *ℤ x)) +ℤ ((dx *ℤ a) -ℤ (dy *ℤ x))
+twice-turn dx dy a x =
+    let p = diff_of dx in
+    let q = diff_of dy in
+    let r = diff_of a in
+    let t = diff_of x in
+    rw (p.is, q.is, r.is, t.is) (simp (diff-add, diff-mul, diff-sub) (diff-eq _ _ _ _ (omega arith)))
+
+sign-is : (p q t : ℤ) → p -ℤ q ≡ t +ℤ t → int_lt q p ≡ int_lt (pos 0) t
+sign-is p q t h = grind (arith, ints)
+
+up-low : (low at : ℤ) → int_le (pos 0) (at -ℤ low) ≡ int_le low at
+up-low low at = grind (arith, ints)
+
+up-high : (low at high : ℤ) → int_lt (at -ℤ low) (high -ℤ low) ≡ int_lt at high
+up-high low at high = grind (arith, ints)
+
+reach-is : (f b : Bundle) (a up : ℤ) → a ≡ (b.low.y +ℤ b.high.y) -ℤ (f.low.y +ℤ f.low.y) → up ≡ (f.high.y +ℤ f.high.y) -ℤ (f.low.y +ℤ f.low.y) → (int_le (pos 0) a && int_lt a up) ≡ reaches f b
+reach-is f b a up ia iu =
+    (λ i. int_le (pos 0) (ia i) && int_lt (ia i) (iu i))
+    ∙ (λ i. up-low (f.low.y +ℤ f.low.y) (b.low.y +ℤ b.high.y) i && up-high (f.low.y +ℤ f.low.y) (b.low.y +ℤ b.high.y) (f.high.y +ℤ f.high.y) i)
+
+turn-is : (f b : Bundle) (p q across a up x : ℤ) → p ≡ across *ℤ a → q ≡ up *ℤ x → across ≡ (f.high.x +ℤ f.high.x) -ℤ (f.low.x +ℤ f.low.x) → up ≡ (f.high.y +ℤ f.high.y) -ℤ (f.low.y +ℤ f.low.y) → a ≡ (b.low.y +ℤ b.high.y) -ℤ (f.low.y +ℤ f.low.y) → x ≡ (b.low.x +ℤ b.high.x) -ℤ (f.low.x +ℤ f.low.x)
+    → int_lt q p ≡ stands_right f b
+turn-is f b p q across a up x ip iq iacross iup ia ix =
+    let dx = f.high.x -ℤ f.low.x in
+    let dy = f.high.y -ℤ f.low.y in
+    let va = (b.low.y -ℤ f.low.y) +ℤ (b.high.y -ℤ f.low.y) in
+    let vx = (b.low.x -ℤ f.low.x) +ℤ (b.high.x -ℤ f.low.x) in
+    let eacross : across ≡ dx +ℤ dx = iacross ∙ twice-way f.high.x f.low.x in
+    let eup : up ≡ dy +ℤ dy = iup ∙ twice-way f.high.y f.low.y in
+    let ea : a ≡ va = ia ∙ from-sum b.low.y b.high.y f.low.y in
+    let ex : x ≡ vx = ix ∙ from-sum b.low.x b.high.x f.low.x in
+    let twice : p -ℤ q ≡ ((dx *ℤ va) -ℤ (dy *ℤ vx)) +ℤ ((dx *ℤ va) -ℤ (dy *ℤ vx)) =
+    (λ i. ip i -ℤ iq i) ∙ ((λ i. (eacross i *ℤ ea i) -ℤ (eup i *ℤ ex i)) ∙ twice-turn dx dy va vx) in
+    sign-is p q ((dx *ℤ va) -ℤ (dy *ℤ vx)) twice
+    ∙ ap (λ (t : ℤ). int_lt (pos 0) t) (sym (turn-sum dx dy (b.low.y -ℤ f.low.y) (b.high.y -ℤ f.low.y) (b.low.x -ℤ f.low.x) (b.high.x -ℤ f.low.x)))
+
+-- a trial by its parts
+pub meets-is : (f b : Bundle) (within less : Bool) (p q across a up x : ℤ) → within ≡ (int_le (pos 0) a && int_lt a up) → less ≡ int_lt q p → p ≡ across *ℤ a → q ≡ up *ℤ x → across ≡ (f.high.x +ℤ f.high.x) -ℤ (f.low.x +ℤ f.low.x) → up ≡ (f.high.y +ℤ f.high.y) -ℤ (f.low.y +ℤ f.low.y) → a ≡ (b.low.y +ℤ b.high.y) -ℤ (f.low.y +ℤ f.low.y) → x ≡ (b.low.x +ℤ b.high.x) -ℤ (f.low.x +ℤ f.low.x)
+    → (within && less) ≡ (reaches f b && stands_right f b)
+meets-is f b within less p q across a up x iw il ip iq iacross iup ia ix =
+    let e : within ≡ reaches f b = iw ∙ reach-is f b a up ia iup in
+    let g : less ≡ stands_right f b = il ∙ turn-is f b p q across a up x ip iq iacross iup ia ix in
+    λ i. e i && g i
 
 -- a slope by its parts
 pub slope-is : (ends : Bundle) (low high begin end left right across up : ℤ) → low ≡ ends.low.y +ℤ ends.low.y → high ≡ ends.high.y +ℤ ends.high.y → begin ≡ ends.low.x +ℤ ends.low.x → end ≡ ends.high.x +ℤ ends.high.x
-    → left ≤ℤ begin → left ≤ℤ end → begin ≤ℤ right → end ≤ℤ right → across ≡ ends.high.x -ℤ ends.low.x → up ≡ ends.high.y -ℤ ends.low.y → unsigned_abs low ≤ 2 ^ 32 → unsigned_abs begin ≤ 2 ^ 32 → unsigned_abs across ≤ 2 ^ 32 → unsigned_abs up ≤ 2 ^ 32
+    → left ≤ℤ begin → left ≤ℤ end → begin ≤ℤ right → end ≤ℤ right → across ≡ end -ℤ begin → up ≡ high -ℤ low → unsigned_abs low ≤ 2 ^ 32 → unsigned_abs begin ≤ 2 ^ 32 → unsigned_abs across ≤ 2 ^ 33 → unsigned_abs up ≤ 2 ^ 33
     → IsSlope (record { ends = ends; low = low; high = high; begin = begin; left = left; right = right; across = across; up = up })
 slope-is ends low high begin end left right across up e0 e1 e2 e3 l0 l1 r0 r1 e6 e7 s0 s2 s6 s7 = record {
   low = e0;
@@ -60,8 +96,8 @@ slope-is ends low high begin end left right across up e0 e1 e2 e3 l0 l1 r0 r1 e6
   left_high = subst (λ (t : ℤ). left ≤ℤ t) e3 l1;
   right_low = subst (λ (t : ℤ). t ≤ℤ right) e2 r0;
   right_high = subst (λ (t : ℤ). t ≤ℤ right) e3 r1;
-  across = e6;
-  up = e7;
+  across = e6 ∙ (λ i. e3 i -ℤ e2 i);
+  up = e7 ∙ (λ i. e1 i -ℤ e0 i);
   low_small = s0;
   begin_small = s2;
   across_small = s6;

@@ -1,6 +1,7 @@
 -- An edge added to stretches of rays.
-use Rattle.std.proofs.Common.{◌≡◌, ◌<◌, ◌≤◌, ◌+◌, ◌-◌, ◌*◌, ℕ, suc, ◌+ℤ◌, true, false, cond, ◌/◌, List, [], length, get_or, set, inl, inr, ◌⊎◌, arith, refl, sym, ap, ◌∙◌, subst}
+use Rattle.std.proofs.Common.{◌≡◌, ◌<◌, ◌≤◌, ◌+◌, ◌-◌, ◌*◌, ℕ, suc, ◌+ℤ◌, true, false, cond, ◌/◌, List, [], length, get_or, set, take, drop, ◌++◌, inl, inr, ◌⊎◌, arith, refl, sym, ap, ◌∙◌, subst}
 use Rattle.std.specs.List.{All}
+use Rattle.std.proofs.Math.Seq.{take-append_seam}
 use Rattle.std.specs.Prelude.{nat_le}
 use Rattle.std.proofs.lemmas.List.{length-set, get_or-set_same, get_or-set_other}
 use Rattle.std.proofs.lemmas.List.Elements.{All-nil, All-set, All-weaker}
@@ -41,6 +42,10 @@ adds-none f s i rays raises = record {
 -- the same of a list that is the same
 pub adds-as : (f : Bundle) (s : Windings) (i j : ℕ) (rays seen : List Ray) (raises news : List Windings) → seen ≡ rays → Adds f s i j seen raises seen news → Adds f s i j rays raises rays news
 adds-as f s i j rays seen raises news same h = subst (λ (rs : List Ray). Adds f s i j rs raises rs news) same h
+
+-- a list that was written over by one as long
+pub written : (n : ℕ) (new old : List Ray) → length new ≡ n → take n (new ++ drop (length new) old) ≡ new
+written n new old e = rw (← e) (take-append_seam new (drop (length new) old))
 
 -- the raises after a stretch are small
 pub next-small : (f : Bundle) (s : Windings) (n i j m : ℕ) (rays seen : List Ray) (raises news : List Windings) → seen ≡ rays → Adds f s i j seen raises seen news → n + j ≤ m → AllSmall (n + i) rays raises → All (AreSmall m) news

@@ -33,7 +33,7 @@ use std::alloc::Global;
 pub(crate) struct Ray {
     pub(crate) key: u64,
     pub(crate) bundle: Bundle,
-    pub(crate) index: u32,
+    pub(crate) index: usize,
     pub(crate) sum: Windings,
 }
 
@@ -177,27 +177,27 @@ fn add_wide(rays: &[Ray], raises: &mut Vec<Windings>, hulls: &[Hull], i: usize, 
 }
 
 // Adds the edge to the ray at `i`.
-fn add_one(rays: &mut Vec<Ray>, i: usize, m: Member)
-    requires inside { i < length rays.old.items }
+fn add_one(rays: &mut [Ray], i: usize, m: Member)
+    requires inside { i < length rays.old }
     requires slope { IsSlope m.slope }
     requires share_small { AreSmall 1 m.share }
-    requires small { All (IsSmallRay (2 ^ 62)) rays.old.items }
-    ensures { (raises : List Windings) → Adds m.slope.ends m.share i (i + 1) rays.old.items raises rays.new.items raises }
+    requires small { All (IsSmallRay (2 ^ 62)) rays.old }
+    ensures { (raises : List Windings) → Adds m.slope.ends m.share i (i + 1) rays.old raises rays.new raises }
 {
     rays[i] = ray_with(m, rays[i]);
 }
 
 // Adds the edge to the ray at `i` and to those behind it, up to the next box.
-fn add_each(rays: &mut Vec<Ray>, i: usize, m: Member) -> usize
-    requires inside { i < length rays.old.items }
-    requires few { length rays.old.items ≤ 100000 }
+fn add_each(rays: &mut [Ray], i: usize, m: Member) -> usize
+    requires inside { i < length rays.old }
+    requires few { length rays.old ≤ 100000 }
     requires slope { IsSlope m.slope }
     requires share_small { AreSmall 1 m.share }
-    requires small { All (IsSmallRay (2 ^ 60 + i)) rays.old.items }
+    requires small { All (IsSmallRay (2 ^ 60 + i)) rays.old }
     ensures later { i < result }
-    ensures within { result ≤ length rays.new.items }
+    ensures within { result ≤ length rays.new }
     ensures exact { (raises : List Windings)
-        → Adds m.slope.ends m.share i result rays.old.items raises rays.new.items raises }
+        → Adds m.slope.ends m.share i result rays.old raises rays.new raises }
 {
     let end = rays.len().min(i - i % NARROW + NARROW);
     let mut k = i;
@@ -238,7 +238,7 @@ fn add_from(
     if end > i {
         return end;
     }
-    add_each(rays, i, m)
+    add_each(rays.as_mut_slice(), i, m)
 }
 
 // The rays in strips below the edge and above it stay as they are, and all do where it is level.
@@ -317,7 +317,7 @@ fn ray_from(bundle: Bundle, spot: Spot) -> Ray
     Ray {
         key: spot.key,
         bundle,
-        index: spot.index,
+        index: spot.index as usize,
         sum: Windings {
             first: 0,
             second: 0,

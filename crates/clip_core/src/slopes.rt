@@ -3,15 +3,13 @@
 
 ghost use Rattle.std.specs.Prelude.{◌≡◌, ◌≤◌, ◌^◌, ◌&&◌, ◌||◌, pos, ◌+ℤ◌, ◌-ℤ◌, ◌*ℤ◌, ◌≤ℤ◌, int_lt, int_le};
 ghost use Rattle.std.specs.Int.RustNames.{unsigned_abs};
-ghost use Rattle.clip_core.specs.Windings.{reaches, stands_right};
-ghost use Rattle.clip_core.specs.Inner.Rays.{twice_middle, twice_across, twice_turn, meets_ray};
+ghost use Rattle.clip_core.specs.Inner.Rays.{meets_ray};
 ghost use Rattle.clip_core.specs.Inner.Slopes.{IsSlope};
 
 use crate::bundles::Bundle;
-use slice_base::wide::step;
 
 /// The ends of an edge; the heights of its low end and its high end; how far across stands the low one, the one more to
-/// the left, and the one more to the right; and the steps from the low end to the high one.
+/// the left, and the one more to the right; and the way from the low end to the high one, across and up.
 #[derive(Clone, Copy)]
 pub(crate) struct Slope {
     pub(crate) ends: Bundle,
@@ -53,37 +51,6 @@ pub(crate) fn greater(two: Two) -> i64
     two.first.max(two.second)
 }
 
-/// The slope of the edge with these ends.
-pub(crate) fn slope_of(ends: Bundle) -> Slope
-    ensures ends { result.ends ≡ ends }
-    ensures is { IsSlope result }
-{
-    let begin = total(ends.low.x, ends.low.x);
-    let end = total(ends.high.x, ends.high.x);
-    let two = Two {
-        first: begin,
-        second: end,
-    };
-    Slope {
-        ends,
-        low: total(ends.low.y, ends.low.y),
-        high: total(ends.high.y, ends.high.y),
-        begin,
-        left: lesser(two),
-        right: greater(two),
-        across: step(ends.low.x, ends.high.x),
-        up: step(ends.low.y, ends.high.y),
-    }
-}
-
-fn reaches(s: Slope, b: Bundle) -> bool
-    requires { IsSlope s }
-    ensures { result ≡ reaches s.ends b }
-{
-    let height = total(b.low.y, b.high.y);
-    (s.low <= height) & (height < s.high)
-}
-
 fn way(from: i64, to: i64) -> i64
     requires from_small { unsigned_abs from ≤ 2 ^ 32 }
     requires to_small { unsigned_abs to ≤ 2 ^ 32 }
@@ -93,34 +60,58 @@ fn way(from: i64, to: i64) -> i64
     to - from
 }
 
+/// The slope of the edge with these ends.
+pub(crate) fn slope_of(ends: Bundle) -> Slope
+    ensures ends { result.ends ≡ ends }
+    ensures is { IsSlope result }
+{
+    let low = total(ends.low.y, ends.low.y);
+    let high = total(ends.high.y, ends.high.y);
+    let begin = total(ends.low.x, ends.low.x);
+    let end = total(ends.high.x, ends.high.x);
+    let two = Two {
+        first: begin,
+        second: end,
+    };
+    Slope {
+        ends,
+        low,
+        high,
+        begin,
+        left: lesser(two),
+        right: greater(two),
+        across: way(begin, end),
+        up: way(low, high),
+    }
+}
+
+fn is_within(at: i64, end: i64) -> bool
+    ensures { result ≡ (int_le (pos 0) at && int_lt at end) }
+{
+    (0 <= at) & (at < end)
+}
+
 fn product(a: i64, b: i64) -> i128
-    requires a_small { unsigned_abs a ≤ 2 ^ 32 }
+    requires a_small { unsigned_abs a ≤ 2 ^ 33 }
     requires b_small { unsigned_abs b ≤ 2 ^ 33 }
     ensures { result ≡ a *ℤ b }
 {
     a as i128 * b as i128
 }
 
-fn is_below(p: i128, q: i128) -> bool
-    ensures { result ≡ int_lt (pos 0) (q -ℤ p) }
+fn is_less(p: i128, q: i128) -> bool
+    ensures { result ≡ int_lt p q }
 {
     p < q
 }
 
-// By the cross product of the edge and the way from its low end to the midpoint.
-fn stands_right(s: Slope, b: Bundle) -> bool
-    requires { IsSlope s }
-    ensures { result ≡ stands_right s.ends b }
-{
-    let across = product(s.up, way(s.begin, total(b.low.x, b.high.x)));
-    let up = product(s.across, way(s.low, total(b.low.y, b.high.y)));
-    is_below(across, up)
-}
-
-/// The edge meets the ray that goes from the bundle's midpoint to the right.
+/// The edge meets the ray that goes from the bundle's midpoint to the right: it reaches its height, and the way from
+/// its low end to the midpoint turns to the left of it.
 pub(crate) fn meets_ray(s: Slope, b: Bundle) -> bool
     requires { IsSlope s }
     ensures { result ≡ meets_ray s.ends b }
 {
-    reaches(s, b) & stands_right(s, b)
+    let up = way(s.low, total(b.low.y, b.high.y));
+    let across = way(s.begin, total(b.low.x, b.high.x));
+    is_within(up, s.up) & is_less(product(s.up, across), product(s.across, up))
 }

@@ -6,8 +6,8 @@ use Rattle.clip_core.proofs.rays.add_each.Given as goal
 abbrev pub invariant-rest : goal.invariant-rest
 invariant-rest l = record {
   later : l.i ≤ l.k;
-  within : l.k ≤ length l.rays.items;
-  adds : (raises : List Windings) → Adds l.m.slope.ends l.m.share l.i l.k l.fn.rays.items raises l.rays.items raises;
+  within : l.k ≤ length l.rays;
+  adds : (raises : List Windings) → Adds l.m.slope.ends l.m.share l.i l.k l.fn.rays raises l.rays raises;
 }
 
 abbrev pub decreases-rest : goal.decreases-rest
