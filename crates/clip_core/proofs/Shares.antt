@@ -11,7 +11,7 @@ use Rattle.clip_core.specs.declared.rays.Ray.{Ray}
 use Rattle.clip_core.specs.Bundles.{is_lower, bundle_of}
 use Rattle.clip_core.specs.Windings.{direction_of, share_of, none, plus, tally_of, is_right_of, reaches, stands_right, sum_of}
 use Rattle.clip_core.specs.Inner.Small.{AreSmall}
-use Rattle.clip_core.specs.Inner.Rays.{nowhere, twice_middle, strip_of, ray_with, AreRising, IsKeyed, IsSmallRay, IsBare, IsFull, IsBareOf, IsTold, HaveRays}
+use Rattle.clip_core.specs.Inner.Rays.{nowhere, twice_middle, strip_of, ray_with, AreRising, IsKeyOf, IsKeyed, IsSmallRay, IsBare, IsFull, IsBareOf, IsTold, HaveRays}
 use Rattle.clip_core.proofs.Tallies.{nothing, both, plus-none, tally_of-step, tally_of-end}
 
 -- an edge that misses a ray changes nothing
@@ -121,8 +121,8 @@ still-rising old new len same rising i j d le below =
 
 pub still-keyed : (high : ℕ) (old new : List Ray) → length new ≡ length old → ((k : ℕ) (d : Ray) → k < length new → (get_or new k d).key ≡ (get_or old k d).key) → ((k : ℕ) (d : Ray) → k < length new → (get_or new k d).bundle ≡ (get_or old k d).bundle) → All (IsKeyed high) old → All (IsKeyed high) new
 still-keyed high old new len keys bundles keyed k d below =
-    ap (λ (n : ℕ). n / 8589934592) (keys k d below)
-    ∙ (keyed k d (omega arith) ∙ ap (λ (b : Bundle). strip_of high (twice_middle b)) (sym (bundles k d below)))
+    subst (λ (n : ℕ). IsKeyOf high (get_or new k d).bundle n) (sym (keys k d below))
+    (subst (λ (b : Bundle). IsKeyOf high b (get_or old k d).key) (sym (bundles k d below)) (keyed k d (omega arith)))
 
 -- a full ray is told
 pub full-told : (high : ℕ) (all : List Marked) (bundles : List Bundle) (bare r : Ray) → IsBareOf high bundles bare → IsFull all bare r → IsTold all bundles r

@@ -9,18 +9,17 @@ use Rattle.edge_cut.specs.declared.passes.Marked.{Marked}
 use Rattle.clip_core.specs.declared.bundles.Bundle.{Bundle}
 use Rattle.clip_core.specs.declared.windings.Windings.{Windings}
 use Rattle.clip_core.specs.declared.rays.Ray.{Ray}
-use Rattle.clip_core.specs.declared.hulls.Hull.{Hull}
 use Rattle.clip_core.specs.Windings.{none, plus, less, is_level}
 use Rattle.clip_core.specs.Inner.Small.{AreSmall}
-use Rattle.clip_core.specs.Inner.Rays.{strip_of, meets_ray, ray_with, is_under, is_up_to, AreRising, IsKeyed, IsSmallRay, IsBare, IsFull}
-use Rattle.clip_core.specs.declared.slopes.Slope.{Slope}
-use Rattle.clip_core.specs.Inner.Slopes.{IsSlope}
-use Rattle.clip_core.specs.Inner.Hulls.{misses, takes, IsIn, IsHull, AreHulls}
+use Rattle.clip_core.specs.Inner.Rays.{strip_of, strip_at, meets_ray, ray_with, is_under, is_up_to, is_below, AreRising, AreInStrip, IsKeyed, IsSmallRay, IsBare, IsFull}
+use Rattle.clip_core.specs.declared.rays.Member.{Member}
+use Rattle.clip_core.specs.Inner.Members.{IsMember}
+use Rattle.clip_core.specs.Inner.Starts.{IsFirst}
 use Rattle.clip_core.specs.Inner.Raises.{raised, lifted, ray_at, AllSmall, Adds, AreWith}
-use Rattle.clip_core.proofs.Shares.{any-default, below-or-not, ray-small, ray-wider, wider, plus-right, small-none, IsSoFar, so_far-begins}
+use Rattle.clip_core.proofs.Shares.{any-default, below-or-not, ray-small, ray-wider, wider, plus-right, small-none, IsSoFar, so_far-begins, still-keyed}
 use Rattle.clip_core.proofs.Lifts.{moved, raised-low, raised-mid, raised-high, raised-none, small-plus, small-less}
-use Rattle.clip_core.proofs.Boxed.{missed-ray, taken-ray}
-use Rattle.clip_core.proofs.PassedBy.{under-same, above-same, above-rest, level-same}
+use Rattle.clip_core.proofs.Beside.{missed-ray, taken-ray}
+use Rattle.clip_core.proofs.PassedBy.{under-same, above-same, above-rest, level-same, below-keys, right-of-key, left-of-key, through-reaches, under-is, div-rises}
 
 pub all-wider : (n m : ℕ) (rays : List Ray) (raises : List Windings) → n ≤ m → AllSmall n rays raises → AllSmall m rays raises
 all-wider n m rays raises le h = record {
@@ -75,21 +74,25 @@ pub adds-after : (f : Bundle) (s : Windings) (i m j : ℕ) (rays mid new : List 
 adds-after f s i m j rays mid new raises mids news e le g h =
     adds-both f s i i j rays mid new raises mids news (omega arith) le (subst (λ (q : ℕ). Adds f s i q rays raises mid mids) e g) h
 
--- a box that the edge misses
-pub adds-missed : (l : Slope) (s : Windings) (hull : Hull) (i j : ℕ) (rays : List Ray) (raises : List Windings) → IsSlope l → i < j → IsHull hull rays i (j - i) → misses l hull ≡ true → Adds l.ends s i j rays raises rays raises
-adds-missed l s hull i j rays raises slope some is h = record {
+-- rays to the right of the edge
+pub adds-right : (m : Member) (strip i j : ℕ) (rays : List Ray) (raises : List Windings) → IsMember m → i ≤ j → All (IsKeyed m.bits) rays → AreInStrip strip i j rays → ((k : ℕ) (d : Ray) → i ≤ k → k < j → k < length rays → strip * 8589934592 + m.breadth.right < (get_or rays k d).key) → Adds m.slope.ends m.share i j rays raises rays raises
+adds-right m strip i j rays raises is some keyed there past = record {
   count = refl;
   raises_count = refl;
   before = λ k d lt below. refl;
-  within = λ k d le lt below. missed-ray l s hull (ray_at rays raises k d) slope (is k d le (omega arith) below) h;
+  within = λ k d le lt below.
+      let right = right-of-key m.slope.ends m.breadth m.bits strip (get_or rays k d) is.breadth (keyed k d below) (there k d le lt below) (past k d le lt below) in
+      missed-ray m.slope.ends m.share (ray_at rays raises k d) right.0 right.1;
   behind = λ k d le below. refl;
   small = λ n a. all-wider (n + i) (n + j) rays raises (omega arith) a;
 }
 
--- a box wholly to the left of it
-pub adds-taken : (l : Slope) (s : Windings) (hull : Hull) (i j : ℕ) (rays : List Ray) (raises : List Windings) → IsSlope l → i < j → j < length raises → IsHull hull rays i (j - i) → takes l hull ≡ true → AreSmall 1 s
-    → Adds l.ends s i j rays raises rays (set (set raises i (plus (get_or raises i none) s)) j (less (get_or raises j none) s))
-adds-taken l s hull i j rays raises slope some inside is h share =
+-- rays to the left of it, in a strip that it goes through
+pub adds-left : (m : Member) (strip i j : ℕ) (rays : List Ray) (raises : List Windings) → IsMember m → i < j → j < length raises → m.first < strip → strip < m.last → All (IsKeyed m.bits) rays → AreInStrip strip i j rays → ((k : ℕ) (d : Ray) → i ≤ k → k < j → is_below (strip * 8589934592 + m.breadth.left) (get_or rays k d) ≡ true)
+    → Adds m.slope.ends m.share i j rays raises rays (set (set raises i (plus (get_or raises i none) m.share)) j (less (get_or raises j none) m.share))
+adds-left m strip i j rays raises is some inside over under keyed there below' =
+    let f = m.slope.ends in
+    let s = m.share in
     let v = plus (get_or raises i none) s in
     let w = less (get_or raises j none) s in
     record {
@@ -97,16 +100,46 @@ adds-taken l s hull i j rays raises slope some inside is h share =
       raises_count = length-set (set raises i v) j w ∙ length-set raises i v;
       before = λ k d lt below. ap (λ (u : Windings). lifted u (get_or rays k d)) (raised-low raises i j (suc k) v w some (omega arith));
       within = λ k d le lt below.
-          ap (λ (u : Windings). lifted u (get_or rays k d)) (raised-mid raises i j (suc k) s w (omega arith) (omega arith) (omega arith))
-          ∙ taken-ray l s hull (raised raises (suc k)) (get_or rays k d) slope (is k d le (omega arith) below) h;
+          let r = get_or rays k d in
+          let at = there k d le lt below in
+          let key = keyed k d below in
+          let left = left-of-key f m.breadth m.bits strip r is.breadth key at (below-keys (strip * 8589934592 + m.breadth.left) r (below' k d le lt)) in
+          ap (λ (u : Windings). lifted u r) (raised-mid raises i j (suc k) s w (omega arith) (omega arith) (omega arith))
+          ∙ taken-ray f s (raised raises (suc k)) r (through-reaches f r.bundle m.bits strip m.first m.last is.first is.last (sym at ∙ key.strip) over under) left.0 left.1;
       behind = λ k d le below. ap (λ (u : Windings). lifted u (get_or rays k d)) (raised-high raises i j (suc k) s some inside (omega arith));
       small = λ n a.
           let one = all-wider (n + i) (n + i + 1) rays raises (omega arith) a in
-          let vs = small-plus (n + i) 1 (get_or raises i none) s (a.raises_small i none (omega arith)) share in
-          let ws = small-less (n + i) 1 (get_or raises j none) s (a.raises_small j none inside) share in
+          let vs = small-plus (n + i) 1 (get_or raises i none) s (a.raises_small i none (omega arith)) is.share_small in
+          let ws = small-less (n + i) 1 (get_or raises j none) s (a.raises_small j none inside) is.share_small in
           all-wider (n + i + 1) (n + j) rays (set (set raises i v) j w) (omega arith)
           (record { rays_small = one.rays_small; raises_small = All-set (AreSmall (n + i + 1)) (set raises i v) j w ws (All-set (AreSmall (n + i + 1)) raises i v vs one.raises_small) });
     }
+
+-- the keys stay
+pub adds-key : (f : Bundle) (s : Windings) (i j : ℕ) (rays new : List Ray) (raises news : List Windings) → Adds f s i j rays raises new news → (k : ℕ) (d : Ray) → k < length rays → (get_or new k d).key ≡ (get_or rays k d).key
+adds-key f s i j rays new raises news a k d below = pick (below-or-not k i) (below-or-not k j)
+  where
+    pick : (k < i) ⊎ (i ≤ k) → (k < j) ⊎ (j ≤ k) → (get_or new k d).key ≡ (get_or rays k d).key
+    pick (inl g) h = ap (λ (r : Ray). r.key) (a.before k d g below)
+    pick (inr g) (inl h) = ap (λ (r : Ray). r.key) (a.within k d g h below)
+    pick (inr g) (inr h) = ap (λ (r : Ray). r.key) (a.behind k d h below)
+
+-- rays stay in their strip
+pub strip-stays : (f : Bundle) (s : Windings) (strip i j a b : ℕ) (rays new : List Ray) (raises news : List Windings) → Adds f s a b rays raises new news → AreInStrip strip i j rays → AreInStrip strip i j new
+strip-stays f s strip i j a b rays new raises news adds there k d le lt below =
+    let below' : k < length rays = let e = adds.count in omega (arith, below, e) in
+    ap (λ (n : ℕ). n / 8589934592) (adds-key f s a b rays new raises news adds k d below') ∙ there k d le lt below'
+
+-- the rays of one strip from one of them on, where those before the last stand under the next strip, or the last is the first
+pub in-strip : (rays : List Ray) (i j end : ℕ) (e : Ray) → AreRising rays → i < length rays → IsFirst (strip_at (get_or rays i e) + 1) j rays → (end ≤ j) ⊎ (end ≤ i + 1) → AreInStrip (strip_at (get_or rays i e)) i end rays
+in-strip rays i j end e rising inside first (inr one) k d le lt below =
+    let same : k ≡ i = omega (arith, one, le, lt) in
+    ap (λ (n : ℕ). strip_at (get_or rays n d)) same ∙ ap (λ (r : Ray). strip_at r) (any-default rays i d e inside)
+in-strip rays i j end e rising inside first (inl fits) k d le lt below =
+    let under = under-is (strip_at (get_or rays k d)) (strip_at (get_or rays i e) + 1) (first.before k d (omega (arith, fits, lt))) in
+    let over = div-rises (get_or rays i d).key (get_or rays k d).key 8589934592 (rising i k d le below) in
+    let same : strip_at (get_or rays i d) ≡ strip_at (get_or rays i e) = ap (λ (r : Ray). strip_at r) (any-default rays i d e inside) in
+    omega (arith, under, over, same)
 
 lifted-with : (f : Bundle) (s by : Windings) (r : Ray) → lifted by (ray_with f s r) ≡ ray_with f s (lifted by r)
 lifted-with f s by r =
@@ -153,15 +186,6 @@ adds-under f s high strip i rays raises is keyed under = record {
 pub level-with : (f : Bundle) (s : Windings) (rays : List Ray) (raises : List Windings) → is_level f ≡ true → AreWith f s rays raises rays raises
 level-with f s rays raises is k d below = level-same f s (ray_at rays raises k d) is
 
--- the keys stay
-pub adds-key : (f : Bundle) (s : Windings) (i j : ℕ) (rays new : List Ray) (raises news : List Windings) → Adds f s i j rays raises new news → (k : ℕ) (d : Ray) → k < length rays → (get_or new k d).key ≡ (get_or rays k d).key
-adds-key f s i j rays new raises news a k d below = pick (below-or-not k i) (below-or-not k j)
-  where
-    pick : (k < i) ⊎ (i ≤ k) → (k < j) ⊎ (j ≤ k) → (get_or new k d).key ≡ (get_or rays k d).key
-    pick (inl g) h = ap (λ (r : Ray). r.key) (a.before k d g below)
-    pick (inr g) (inl h) = ap (λ (r : Ray). r.key) (a.within k d g h below)
-    pick (inr g) (inr h) = ap (λ (r : Ray). r.key) (a.behind k d h below)
-
 -- the bundles stay
 pub adds-bundle : (f : Bundle) (s : Windings) (i j : ℕ) (rays new : List Ray) (raises news : List Windings) → Adds f s i j rays raises new news → (k : ℕ) (d : Ray) → k < length rays → (get_or new k d).bundle ≡ (get_or rays k d).bundle
 adds-bundle f s i j rays new raises news a k d below = pick (below-or-not k i) (below-or-not k j)
@@ -171,14 +195,13 @@ adds-bundle f s i j rays new raises news a k d below = pick (below-or-not k i) (
     pick (inr g) (inl h) = ap (λ (r : Ray). r.bundle) (a.within k d g h below)
     pick (inr g) (inr h) = ap (λ (r : Ray). r.bundle) (a.behind k d h below)
 
--- and with them the boxes
-pub hulls-stay : (width : ℕ) (hulls : List Hull) (rays new : List Ray) → length new ≡ length rays → ((k : ℕ) (d : Ray) → k < length rays → (get_or new k d).bundle ≡ (get_or rays k d).bundle) → AreHulls width hulls rays → AreHulls width hulls new
-hulls-stay width hulls rays new len same h = record {
-  enough = subst (λ (n : ℕ). n ≤ width * length hulls) (sym len) h.enough;
-  covers = λ j d below k e le lt in'.
-      let there : k < length rays = omega arith in
-      subst (λ (b : Bundle). IsIn (get_or hulls j d) b) (sym (same k e there)) (h.covers j d below k e le lt there);
-}
+-- and with both the keys' meaning
+pub adds-keyed : (bits : ℕ) (f : Bundle) (s : Windings) (i j : ℕ) (rays new : List Ray) (raises news : List Windings) → Adds f s i j rays raises new news → All (IsKeyed bits) rays → All (IsKeyed bits) new
+adds-keyed bits f s i j rays new raises news a keyed =
+    still-keyed bits rays new a.count
+    (λ k d below. adds-key f s i j rays new raises news a k d (let e = a.count in omega (arith, e, below)))
+    (λ k d below. adds-bundle f s i j rays new raises news a k d (let e = a.count in omega (arith, e, below)))
+    keyed
 
 -- from a ray above the edge on
 pub adds-past : (f : Bundle) (s : Windings) (strip i : ℕ) (rays new : List Ray) (raises news : List Windings) (e : Ray) → AreRising rays → Adds f s 0 i rays raises new news → i < length new → is_up_to strip (get_or new i e) ≡ false → (k : ℕ) (d : Ray) → i ≤ k → k < length rays → is_up_to strip (get_or rays k d) ≡ false

@@ -4,7 +4,7 @@ pub mod Small
 pub mod Rays
 pub mod Indexed
 pub mod Slopes
-pub mod Hulls
+pub mod Members
 pub mod Raises
 pub mod Starts
 pub mod Spots

@@ -6,7 +6,6 @@
 mod areas;
 mod bundles;
 mod clipping;
-mod hulls;
 mod keeping;
 mod laws;
 mod net_counts;

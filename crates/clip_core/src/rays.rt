@@ -1,28 +1,27 @@
 // Bundles with the winding numbers that all edges give them. The bundles stand by strips of heights, in each from
-// left to right, so that each edge finds those whose rays it can meet in one stretch of the list; and neighbours
-// have boxes round their midpoints, so that a tall edge passes over many of them at once.
+// left to right, so that an edge finds in each strip that it goes through those to its left by halves, and counts for
+// all of them at once.
 
-ghost use Rattle.std.specs.Prelude.{◌≡◌, ◌+◌, ◌-◌, ◌*◌, ◌/◌, ◌<◌, ◌≤◌, ◌^◌, ◌++◌, ℕ, pos, ◌+ℤ◌, ◌≤ℤ◌, true, List, [], length, cond, nat_lt, nat_le, slice_index_or, IfOk};
+ghost use Rattle.std.specs.Prelude.{◌≡◌, ◌+◌, ◌-◌, ◌*◌, ◌/◌, ◌<◌, ◌≤◌, ◌^◌, ◌++◌, ℕ, pos, ◌+ℤ◌, ◌≤ℤ◌, true, false, List, [], length, cond, nat_lt, nat_le, slice_index_or, IfOk};
 ghost use Rattle.std.specs.List.{All};
 ghost use Rattle.clip_core.specs.Bundles.{bundle_of};
 ghost use Rattle.clip_core.specs.Windings.{share_of, none};
 ghost use Rattle.clip_core.specs.Inner.Small.{AreSmall};
-ghost use Rattle.clip_core.specs.Inner.Rays.{strip_of, strip_at, twice_middle, is_under, is_up_to, ray_with};
-ghost use Rattle.clip_core.specs.Inner.Rays.{AreRising, IsKeyed, IsSmallRay, IsBareOf, IsBare, IsRayOf, IsTold, HaveRays};
-ghost use Rattle.clip_core.specs.Inner.Slopes.{IsSlope};
-ghost use Rattle.clip_core.specs.Inner.Hulls.{IsHull, AreHulls};
+ghost use Rattle.clip_core.specs.Inner.Rays.{strip_of, strip_at, is_under, is_up_to, is_below, is_up_to_key, ray_with};
+ghost use Rattle.clip_core.specs.Inner.Rays.{AreRising, AreInStrip, IsKeyed, IsSmallRay, IsBareOf, IsBare, IsRayOf, IsTold, HaveRays};
+ghost use Rattle.clip_core.specs.Inner.Slopes.{IsSlope, IsBreadth};
+ghost use Rattle.clip_core.specs.Inner.Members.{IsMember};
 ghost use Rattle.clip_core.specs.Inner.Spots.{IsSpotOf, IsRayAt, AreAt};
 ghost use Rattle.clip_core.specs.Inner.Starts.{AreFirsts};
 ghost use Rattle.clip_core.specs.Inner.Raises.{AllSmall, Adds, AreWith, AreFull};
 ghost use Rattle.clip_core.specs.declared.windings.Windings.{Windings};
 
 use crate::bundles::{Bundle, bundle_of};
-use crate::hulls::{Hull, hulls_of, misses, takes};
 use crate::raises::{lift, raise};
 use crate::slopes::{Slope, meets_ray, slope_of};
 use crate::spots::{Spot, sorted_spots};
 use crate::starts::{Starts, first_up, starts_of};
-use crate::strips::{strip_bits, strip_of};
+use crate::strips::{Breadth, breadth_of, key_in, strip_bits, strip_of};
 use crate::windings::{Windings, add_if, is_level, nones, share};
 use edge_cut::Marked;
 use slice_base::NoMemory;
@@ -37,24 +36,25 @@ pub(crate) struct Ray {
     pub(crate) sum: Windings,
 }
 
-// An edge's slope, what it counts, and the strips of its ends.
+// An edge's slope, what it counts, the strips of its ends, and how far across these stand, where strips are two to the
+// power of `bits` high.
 #[derive(Clone, Copy)]
 struct Member {
     slope: Slope,
     share: Windings,
     first: u64,
     last: u64,
+    breadth: Breadth,
+    bits: u32,
 }
 
 fn member_of(m: Marked, bits: u32) -> Member
     requires bits_from { 2 ≤ bits }
     requires bits_to { bits ≤ 40 }
     ensures ends { result.slope.ends ≡ bundle_of m.edge }
-    ensures slope { IsSlope result.slope }
     ensures share { result.share ≡ share_of m }
-    ensures small { AreSmall 1 result.share }
-    ensures first { result.first ≡ strip_of bits (result.slope.ends.low.y +ℤ result.slope.ends.low.y) }
-    ensures last { result.last ≡ strip_of bits (result.slope.ends.high.y +ℤ result.slope.ends.high.y) }
+    ensures bits { result.bits ≡ bits }
+    ensures is { IsMember result }
 {
     let ends = bundle_of(m.edge);
     Member {
@@ -62,6 +62,8 @@ fn member_of(m: Marked, bits: u32) -> Member
         share: share(m),
         first: strip_of(ends.low.y, ends.low.y, bits),
         last: strip_of(ends.high.y, ends.high.y, bits),
+        breadth: breadth_of(ends),
+        bits,
     }
 }
 
@@ -85,8 +87,7 @@ fn is_up_to(strip: u64, r: Ray) -> bool
 }
 
 fn ray_with(m: Member, r: Ray) -> Ray
-    requires slope { IsSlope m.slope }
-    requires share_small { AreSmall 1 m.share }
+    requires member { IsMember m }
     requires ray_small { IsSmallRay (2 ^ 62) r }
     ensures { result ≡ ray_with m.slope.ends m.share r }
 {
@@ -96,165 +97,192 @@ fn ray_with(m: Member, r: Ray) -> Ray
     }
 }
 
-// Passes over the rays of a box from `i` on: where they are all to the left of the edge, by raising them, and
-// where they are all to its right. Else it stays at `i`.
-fn add_hull(
-    rays: &[Ray],
-    raises: &mut Vec<Windings>,
-    hull: Hull,
-    i: usize,
-    end: usize,
-    m: Member,
-) -> usize
-    requires some { i < end }
-    requires within { end ≤ length rays.now }
-    requires enough { length raises.old.items ≡ length rays.now + 1 }
-    requires is_hull { IsHull hull rays.now i (end - i) }
-    requires slope { IsSlope m.slope }
-    requires share_small { AreSmall 1 m.share }
-    requires small { All (AreSmall (2 ^ 61)) raises.old.items }
-    ensures later { i ≤ result }
-    ensures within { result ≤ length rays.now }
-    ensures exact { Adds m.slope.ends m.share i result rays.now raises.old.items rays.now raises.new.items }
-{
-    if misses(m.slope, hull) {
-        return end;
-    }
-    if takes(m.slope, hull) {
-        raise(raises, i, end, m.share);
-        return end;
-    }
-    i
-}
-
-// How many neighbours have a box, and how many a great one: of 100,000 rays a tall edge sees some 400 boxes.
-const NARROW: usize = 16;
-
-const WIDE: usize = 256;
-
-fn add_narrow(
-    rays: &[Ray],
-    raises: &mut Vec<Windings>,
-    hulls: &[Hull],
-    i: usize,
-    m: Member,
-) -> usize
-    requires inside { i < length rays.now }
-    requires few { length rays.now ≤ 100000 }
-    requires enough { length raises.old.items ≡ length rays.now + 1 }
-    requires hulls { AreHulls 16 hulls.now rays.now }
-    requires slope { IsSlope m.slope }
-    requires share_small { AreSmall 1 m.share }
-    requires small { All (AreSmall (2 ^ 61)) raises.old.items }
-    ensures later { i ≤ result }
-    ensures within { result ≤ length rays.now }
-    ensures exact { Adds m.slope.ends m.share i result rays.now raises.old.items rays.now raises.new.items }
-{
-    if i % NARROW == 0 {
-        let end = rays.len().min(i + NARROW);
-        return add_hull(rays, raises, hulls[i / NARROW], i, end, m);
-    }
-    i
-}
-
-fn add_wide(rays: &[Ray], raises: &mut Vec<Windings>, hulls: &[Hull], i: usize, m: Member) -> usize
-    requires inside { i < length rays.now }
-    requires few { length rays.now ≤ 100000 }
-    requires enough { length raises.old.items ≡ length rays.now + 1 }
-    requires hulls { AreHulls 256 hulls.now rays.now }
-    requires slope { IsSlope m.slope }
-    requires share_small { AreSmall 1 m.share }
-    requires small { All (AreSmall (2 ^ 61)) raises.old.items }
-    ensures later { i ≤ result }
-    ensures within { result ≤ length rays.now }
-    ensures exact { Adds m.slope.ends m.share i result rays.now raises.old.items rays.now raises.new.items }
-{
-    if i % WIDE == 0 {
-        let end = rays.len().min(i + WIDE);
-        return add_hull(rays, raises, hulls[i / WIDE], i, end, m);
-    }
-    i
-}
-
 // Adds the edge to the ray at `i`.
 fn add_one(rays: &mut [Ray], i: usize, m: Member)
     requires inside { i < length rays.old }
-    requires slope { IsSlope m.slope }
-    requires share_small { AreSmall 1 m.share }
+    requires member { IsMember m }
     requires small { All (IsSmallRay (2 ^ 62)) rays.old }
     ensures { (raises : List Windings) → Adds m.slope.ends m.share i (i + 1) rays.old raises rays.new raises }
 {
     rays[i] = ray_with(m, rays[i]);
 }
 
-// Adds the edge to the ray at `i` and to those behind it, up to the next box.
-fn add_each(rays: &mut [Ray], i: usize, m: Member) -> usize
-    requires inside { i < length rays.old }
+fn is_below(key: u64, r: Ray) -> bool
+    ensures { result ≡ is_below key r }
+{
+    r.key < key
+}
+
+// The rays from `low` on may have keys below some key, and those from `high` on don't.
+#[derive(Clone, Copy)]
+struct Bounds {
+    low: usize,
+    high: usize,
+}
+
+// The half of the bounds in which the first ray stands whose key isn't below this one.
+fn halved(rays: &[Ray], bounds: Bounds, key: u64) -> Bounds
+    requires some { bounds.low < bounds.high }
+    requires within { bounds.high ≤ length rays.now }
+    requires rising { AreRising rays.now }
+    ensures later { bounds.low ≤ result.low }
+    ensures within { result.high ≤ bounds.high }
+    ensures ordered { result.low ≤ result.high }
+    ensures less { result.high - result.low < bounds.high - bounds.low }
+    ensures below { (k : ℕ) (d : Ray) → bounds.low ≤ k → k < result.low → is_below key (slice_index_or rays.now k d) ≡ true }
+{
+    let middle = bounds.low + (bounds.high - bounds.low) / 2;
+    if is_below(key, rays[middle]) {
+        Bounds {
+            low: middle + 1,
+            high: bounds.high,
+        }
+    } else {
+        Bounds {
+            low: bounds.low,
+            high: middle,
+        }
+    }
+}
+
+// The first ray from `i` up to `end` whose key isn't below this one.
+fn first_at(rays: &[Ray], i: usize, end: usize, key: u64) -> usize
+    requires some { i ≤ end }
+    requires within { end ≤ length rays.now }
+    requires rising { AreRising rays.now }
+    ensures later { i ≤ result }
+    ensures within { result ≤ end }
+    ensures below { (k : ℕ) (d : Ray) → i ≤ k → k < result → is_below key (slice_index_or rays.now k d) ≡ true }
+{
+    let mut bounds = Bounds { low: i, high: end };
+    'halves: while bounds.low < bounds.high {
+        bounds = halved(rays, bounds, key);
+    }
+    bounds.low
+}
+
+// Where the edge goes through the strip from its lower side to its upper one, it takes all rays to its left: raises
+// those, and tells where the others begin.
+fn add_left(
+    rays: &[Ray],
+    raises: &mut Vec<Windings>,
+    i: usize,
+    end: usize,
+    strip: u64,
+    m: Member,
+) -> usize
+    requires some { i ≤ end }
+    requires within { end ≤ length rays.now }
+    requires enough { length raises.old.items ≡ length rays.now + 1 }
+    requires in_strip { AreInStrip strip i end rays.now }
+    requires strip_small { strip < 2147483648 }
+    requires rising { AreRising rays.now }
+    requires keyed { All (IsKeyed m.bits) rays.now }
+    requires member { IsMember m }
+    requires small { All (AreSmall (2 ^ 61)) raises.old.items }
+    ensures later { i ≤ result }
+    ensures within { result ≤ end }
+    ensures exact { Adds m.slope.ends m.share i result rays.now raises.old.items rays.now raises.new.items }
+{
+    if strip <= m.first || m.last <= strip {
+        return i;
+    }
+    let to = first_at(rays, i, end, key_in(strip, m.breadth.left));
+    if to == i {
+        return i;
+    }
+    raise(raises, i, to, m.share);
+    to
+}
+
+fn is_up_to_key(key: u64, r: Ray) -> bool
+    ensures { result ≡ is_up_to_key key r }
+{
+    r.key <= key
+}
+
+// Adds the edge to the rays from `i` up to `end` one by one, as far as their keys aren't above this one.
+fn add_near(rays: &mut [Ray], i: usize, end: usize, key: u64, m: Member) -> usize
+    requires some { i ≤ end }
+    requires within { end ≤ length rays.old }
     requires few { length rays.old ≤ 100000 }
-    requires slope { IsSlope m.slope }
-    requires share_small { AreSmall 1 m.share }
+    requires member { IsMember m }
     requires small { All (IsSmallRay (2 ^ 60 + i)) rays.old }
-    ensures later { i < result }
-    ensures within { result ≤ length rays.new }
+    ensures later { i ≤ result }
+    ensures within { result ≤ end }
     ensures exact { (raises : List Windings)
         → Adds m.slope.ends m.share i result rays.old raises rays.new raises }
+    ensures past { (d : Ray) → result < end → is_up_to_key key (slice_index_or rays.new result d) ≡ false }
 {
-    let end = rays.len().min(i - i % NARROW + NARROW);
     let mut k = i;
-    'rest: while k < end {
+    'near: while k < end && is_up_to_key(key, rays[k]) {
         add_one(rays, k, m);
         k += 1;
     }
     k
 }
 
-// Adds the edge to a whole box of rays that begins at `i`, where it takes or misses them all, else to some of them
-// one by one, and tells where it came to.
+// Adds the edge to the rays from `i` up to `end`, all of this strip: those to its right stay as they are.
+fn add_strip(
+    rays: &mut Vec<Ray>,
+    raises: &mut Vec<Windings>,
+    i: usize,
+    end: usize,
+    strip: u64,
+    m: Member,
+)
+    requires some { i ≤ end }
+    requires within { end ≤ length rays.old.items }
+    requires few { length rays.old.items ≤ 100000 }
+    requires enough { length raises.old.items ≡ length rays.old.items + 1 }
+    requires in_strip { AreInStrip strip i end rays.old.items }
+    requires strip_small { strip < 2147483648 }
+    requires rising { AreRising rays.old.items }
+    requires keyed { All (IsKeyed m.bits) rays.old.items }
+    requires member { IsMember m }
+    requires small { AllSmall (2 ^ 60 + i) rays.old.items raises.old.items }
+    ensures { Adds m.slope.ends m.share i end rays.old.items raises.old.items rays.new.items raises.new.items }
+{
+    let near = add_left(rays.as_slice(), raises, i, end, strip, m);
+    add_near(
+        rays.as_mut_slice(),
+        near,
+        end,
+        key_in(strip, m.breadth.right),
+        m,
+    );
+}
+
+// Adds the edge to the rays of the strip of the one at `i`, and tells where it came to.
 fn add_from(
     rays: &mut Vec<Ray>,
     raises: &mut Vec<Windings>,
-    wide: &[Hull],
-    narrow: &[Hull],
+    starts: &Starts,
     i: usize,
     m: Member,
 ) -> usize
     requires inside { i < length rays.old.items }
     requires few { length rays.old.items ≤ 100000 }
     requires enough { length raises.old.items ≡ length rays.old.items + 1 }
-    requires wide { AreHulls 256 wide.now rays.old.items }
-    requires narrow { AreHulls 16 narrow.now rays.old.items }
-    requires slope { IsSlope m.slope }
-    requires share_small { AreSmall 1 m.share }
+    requires starts { AreFirsts starts.now.base starts.now.firsts.items rays.old.items }
+    requires rising { AreRising rays.old.items }
+    requires keyed { All (IsKeyed m.bits) rays.old.items }
+    requires member { IsMember m }
     requires small { AllSmall (2 ^ 60 + i) rays.old.items raises.old.items }
     ensures later { i < result }
     ensures within { result ≤ length rays.new.items }
     ensures exact { Adds m.slope.ends m.share i result rays.old.items raises.old.items rays.new.items raises.new.items }
 {
-    let end = add_wide(rays.as_slice(), raises, wide, i, m);
-    if end > i {
-        return end;
-    }
-    let end = add_narrow(rays.as_slice(), raises, narrow, i, m);
-    if end > i {
-        return end;
-    }
-    add_each(rays.as_mut_slice(), i, m)
+    let strip = strip_at(rays[i]);
+    let end = first_up(starts, strip + 1).max(i + 1);
+    add_strip(rays, raises, i, end, strip, m);
+    end
 }
 
 // The rays in strips below the edge and above it stay as they are, and all do where it is level.
-fn add_edge(
-    rays: &mut Vec<Ray>,
-    raises: &mut Vec<Windings>,
-    wide: &[Hull],
-    narrow: &[Hull],
-    starts: &Starts,
-    bits: u32,
-    m: Marked,
-)
+fn add_edge(rays: &mut Vec<Ray>, raises: &mut Vec<Windings>, starts: &Starts, bits: u32, m: Marked)
     requires few { length rays.old.items ≤ 100000 }
     requires enough { length raises.old.items ≡ length rays.old.items + 1 }
-    requires wide { AreHulls 256 wide.now rays.old.items }
-    requires narrow { AreHulls 16 narrow.now rays.old.items }
     requires starts { AreFirsts starts.now.base starts.now.firsts.items rays.old.items }
     requires bits_from { 2 ≤ bits }
     requires bits_to { bits ≤ 40 }
@@ -274,15 +302,13 @@ fn add_edge(
     }
     let mut i = first_up(starts, member.first);
     'walk: while i < rays.len() && is_up_to(member.last, rays[i]) {
-        i = add_from(rays, raises, wide, narrow, i, member);
+        i = add_from(rays, raises, starts, i, member);
     }
 }
 
 fn add_edges(
     rays: &mut Vec<Ray>,
     raises: &mut Vec<Windings>,
-    wide: &[Hull],
-    narrow: &[Hull],
     starts: &Starts,
     bits: u32,
     all: &[Marked],
@@ -291,8 +317,6 @@ fn add_edges(
     requires rays_few { length rays.old.items ≤ 100000 }
     requires enough { length raises.old.items ≡ length rays.old.items + 1 }
     requires flat { All (λ w. w ≡ none) raises.old.items }
-    requires wide { AreHulls 256 wide.now rays.old.items }
-    requires narrow { AreHulls 16 narrow.now rays.old.items }
     requires starts { AreFirsts starts.now.base starts.now.firsts.items rays.old.items }
     requires bits_from { 2 ≤ bits }
     requires bits_to { bits ≤ 40 }
@@ -305,7 +329,7 @@ fn add_edges(
     ensures small { AllSmall (2 ^ 40) rays.new.items raises.new.items }
 {
     for m in all {
-        add_edge(rays, raises, wide, narrow, starts, bits, *m);
+        add_edge(rays, raises, starts, bits, *m);
     }
 }
 
@@ -378,19 +402,9 @@ pub(crate) fn rays_of(
 {
     let bits = strip_bits(bundles);
     let mut rays = sorted_rays(alloc, bundles, bits)?;
-    let wide = hulls_of(alloc, rays.as_slice(), WIDE)?;
-    let narrow = hulls_of(alloc, rays.as_slice(), NARROW)?;
     let starts = starts_of(alloc, rays.as_slice())?;
     let mut raises = nones(alloc, rays.len() + 1)?;
-    add_edges(
-        &mut rays,
-        &mut raises,
-        wide.as_slice(),
-        narrow.as_slice(),
-        &starts,
-        bits,
-        all,
-    );
+    add_edges(&mut rays, &mut raises, &starts, bits, all);
     lift(&mut rays, raises.as_slice());
     Ok(rays)
 }

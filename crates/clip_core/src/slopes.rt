@@ -1,23 +1,20 @@
 // Edges as they are tried against midpoints and boxes round them: what a trial needs of an edge is computed once, and a
-// trial has no branches, since what comes of it is hard to guess. Heights and places across are doubled, as in boxes.
+// trial has no branches, since what comes of it is hard to guess. Heights and places across are doubled.
 
-ghost use Rattle.std.specs.Prelude.{◌≡◌, ◌≤◌, ◌^◌, ◌&&◌, ◌||◌, pos, ◌+ℤ◌, ◌-ℤ◌, ◌*ℤ◌, ◌≤ℤ◌, int_lt, int_le};
+ghost use Rattle.std.specs.Prelude.{◌≡◌, ◌≤◌, ◌^◌, ◌&&◌, pos, ◌+ℤ◌, ◌-ℤ◌, ◌*ℤ◌, int_lt, int_le};
 ghost use Rattle.std.specs.Int.RustNames.{unsigned_abs};
 ghost use Rattle.clip_core.specs.Inner.Rays.{meets_ray};
 ghost use Rattle.clip_core.specs.Inner.Slopes.{IsSlope};
 
 use crate::bundles::Bundle;
 
-/// The ends of an edge; the heights of its low end and its high end; how far across stands the low one, the one more to
-/// the left, and the one more to the right; and the way from the low end to the high one, across and up.
+/// The ends of an edge; the height of its low end, and how far across that stands; and the way from there to the high
+/// end, across and up.
 #[derive(Clone, Copy)]
 pub(crate) struct Slope {
     pub(crate) ends: Bundle,
     pub(crate) low: i64,
-    pub(crate) high: i64,
     pub(crate) begin: i64,
-    pub(crate) left: i64,
-    pub(crate) right: i64,
     pub(crate) across: i64,
     pub(crate) up: i64,
 }
@@ -28,27 +25,6 @@ pub(crate) fn total(p: i32, q: i32) -> i64
     ensures small { unsigned_abs result ≤ 2 ^ 32 }
 {
     p as i64 + q as i64
-}
-
-/// Two numbers, of heights or across.
-#[derive(Clone, Copy)]
-pub(crate) struct Two {
-    pub(crate) first: i64,
-    pub(crate) second: i64,
-}
-
-pub(crate) fn lesser(two: Two) -> i64
-    ensures first { result ≤ℤ two.first }
-    ensures second { result ≤ℤ two.second }
-{
-    two.first.min(two.second)
-}
-
-pub(crate) fn greater(two: Two) -> i64
-    ensures first { two.first ≤ℤ result }
-    ensures second { two.second ≤ℤ result }
-{
-    two.first.max(two.second)
 }
 
 fn way(from: i64, to: i64) -> i64
@@ -69,17 +45,10 @@ pub(crate) fn slope_of(ends: Bundle) -> Slope
     let high = total(ends.high.y, ends.high.y);
     let begin = total(ends.low.x, ends.low.x);
     let end = total(ends.high.x, ends.high.x);
-    let two = Two {
-        first: begin,
-        second: end,
-    };
     Slope {
         ends,
         low,
-        high,
         begin,
-        left: lesser(two),
-        right: greater(two),
         across: way(begin, end),
         up: way(low, high),
     }

@@ -1,8 +1,8 @@
 // The order in which rays stand: what is sorted for it is small, a key and an index, in place of whole rays.
 
-ghost use Rattle.std.specs.Prelude.{◌≡◌, ◌≤◌, ◌<◌, ◌/◌, length, slice_index_or, IfOk};
+ghost use Rattle.std.specs.Prelude.{◌≡◌, ◌≤◌, ◌<◌, length, slice_index_or, IfOk};
 ghost use Rattle.std.specs.List.{All};
-ghost use Rattle.clip_core.specs.Inner.Rays.{strip_of, twice_middle};
+ghost use Rattle.clip_core.specs.Inner.Rays.{IsKeyOf};
 ghost use Rattle.clip_core.specs.Inner.Spots.{IsSpotOf, AreNumbered, AreRising, HaveSpots};
 
 use crate::bundles::Bundle;
@@ -21,7 +21,7 @@ fn spot_from(bundle: Bundle, index: usize, bits: u32) -> Spot
     requires few { index < 100000 }
     requires bits_from { 2 ≤ bits }
     requires bits_to { bits ≤ 40 }
-    ensures keyed { result.key / 8589934592 ≡ strip_of bits (twice_middle bundle) }
+    ensures keyed { IsKeyOf bits bundle result.key }
     ensures index { result.index ≡ index }
 {
     Spot {

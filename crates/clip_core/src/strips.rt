@@ -1,8 +1,9 @@
-// Strips of heights: midpoints stand strip by strip, and in each from left to right, so that those which stand
-// together lie within a small box. Heights and places across are doubled.
+// Strips of heights: midpoints stand strip by strip, and in each from left to right. Heights and places across are
+// doubled.
 
-ghost use Rattle.std.specs.Prelude.{◌≡◌, ◌≤◌, ◌<◌, ◌/◌, ◌+ℤ◌};
-ghost use Rattle.clip_core.specs.Inner.Rays.{above_least, strip_of, twice_middle};
+ghost use Rattle.std.specs.Prelude.{◌≡◌, ◌≤◌, ◌<◌, ◌+◌, ◌*◌, ◌+ℤ◌};
+ghost use Rattle.clip_core.specs.Inner.Rays.{above_least, strip_of, IsKeyOf};
+ghost use Rattle.clip_core.specs.Inner.Slopes.{IsBreadth};
 
 use crate::bundles::Bundle;
 
@@ -28,9 +29,37 @@ pub(crate) fn strip_of(p: i32, q: i32, bits: u32) -> u64
 pub(crate) fn key_of(b: Bundle, bits: u32) -> u64
     requires bits_from { 2 ≤ bits }
     requires bits_to { bits ≤ 40 }
-    ensures { result / 8589934592 ≡ strip_of bits (twice_middle b) }
+    ensures { IsKeyOf bits b result }
 {
     strip_of(b.low.y, b.high.y, bits) * 8_589_934_592 + above_least(b.low.x, b.high.x)
+}
+
+/// How far the end of an edge more to the left, and the one more to the right, stand above the least place.
+#[derive(Clone, Copy)]
+pub(crate) struct Breadth {
+    pub(crate) left: u64,
+    pub(crate) right: u64,
+}
+
+/// The breadth of the edge with these ends.
+pub(crate) fn breadth_of(ends: Bundle) -> Breadth
+    ensures { IsBreadth ends result }
+{
+    let low = above_least(ends.low.x, ends.low.x);
+    let high = above_least(ends.high.x, ends.high.x);
+    Breadth {
+        left: low.min(high),
+        right: low.max(high),
+    }
+}
+
+/// The key of this place in a strip.
+pub(crate) fn key_in(strip: u64, across: u64) -> u64
+    requires strip_small { strip < 2147483648 }
+    requires across_small { across < 8589934592 }
+    ensures { result ≡ strip * 8589934592 + across }
+{
+    strip * 8_589_934_592 + across
 }
 
 // The height of all of them together.
@@ -47,8 +76,9 @@ fn extent(bundles: &[Bundle]) -> u64 {
     u64::from(high.abs_diff(low))
 }
 
-/// Strips are two to this power high, so that a shift tells them: a part of what edges are on average, so that most of
-/// them reach few strips, but so high that there are at most some eight to a bundle. Any height is right.
+/// Strips are two to this power high, so that a shift tells them. An edge takes a search in each strip that it goes
+/// through, and looks at half of the midpoints in the two where it ends: the height is about what makes both cost as
+/// much. Any height is right.
 pub(crate) fn strip_bits(bundles: &[Bundle]) -> u32
     ensures least { 2 ≤ result }
     ensures most { result ≤ 40 }
@@ -57,17 +87,7 @@ pub(crate) fn strip_bits(bundles: &[Bundle]) -> u32
     for b in bundles {
         heights = heights.saturating_add(u64::from(b.high.y.abs_diff(b.low.y)));
     }
-    let count = bundles.len() as u64;
-    let height = part(heights, count, 16).max(part(extent(bundles), count, 4));
-    (64 - height.leading_zeros()).clamp(2, 40)
-}
-
-// This part of an average: of a doubled height it is the half of that.
-fn part(heights: u64, count: u64, of: u64) -> u64
-    requires { 0 < of }
-{
-    if count == 0 {
-        return 0;
-    }
-    heights / count / of
+    let count = (bundles.len() as u64).max(1);
+    let square = (heights / count).saturating_mul(extent(bundles)) / count;
+    ((64 - square.leading_zeros()) / 2 + 2).clamp(2, 40)
 }

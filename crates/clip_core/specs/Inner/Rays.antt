@@ -1,5 +1,5 @@
 -- Bundles with their winding sums, as far as edges were added to them.
-use Rattle.std.specs.Prelude.{ℕ, ℤ, pos, ◌≡◌, ◌/◌, ◌^◌, ◌+ℤ◌, ◌≤◌, ◌<◌, Bool, cond, ◌&&◌, int_le, nat_lt, nat_le, List, length, slice_index_or, unsigned_abs}
+use Rattle.std.specs.Prelude.{ℕ, ℤ, pos, ◌≡◌, ◌+◌, ◌*◌, ◌/◌, ◌^◌, ◌+ℤ◌, ◌≤◌, ◌<◌, Bool, cond, ◌&&◌, int_le, nat_lt, nat_le, List, length, slice_index_or, unsigned_abs}
 use Rattle.slice_base.specs.Plane.{cross_of}
 use Rattle.edge_cut.specs.declared.passes.Marked.{Marked}
 use Rattle.clip_core.specs.declared.bundles.Bundle.{Bundle}
@@ -44,6 +44,14 @@ is_under strip r = nat_lt (strip_at r) strip
 abbrev pub is_up_to : ℕ → Ray → Bool
 is_up_to strip r = nat_le (strip_at r) strip
 
+-- the ray's key is below this one
+abbrev pub is_below : ℕ → Ray → Bool
+is_below key r = nat_lt r.key key
+
+-- the ray's key isn't above this one
+abbrev pub is_up_to_key : ℕ → Ray → Bool
+is_up_to_key key r = nat_le r.key key
+
 -- twice the cross product of an edge with these ends and the way from its low end to the bundle's midpoint
 abbrev pub twice_turn : Bundle → Bundle → ℤ
 twice_turn f b = cross_of f.low f.high f.low b.low +ℤ cross_of f.low f.high f.low b.high
@@ -61,9 +69,19 @@ abbrev pub AreRising : List Ray → Type 0
 AreRising rays = (i j : ℕ) (d : Ray) → i ≤ j → j < length rays
     → (slice_index_or rays i d).key ≤ (slice_index_or rays j d).key
 
--- the key begins with the strip of the midpoint
+-- the rays from i up to j stand in this strip
+abbrev pub AreInStrip : ℕ → ℕ → ℕ → List Ray → Type 0
+AreInStrip strip i j rays =
+    (k : ℕ) (d : Ray) → i ≤ k → k < j → k < length rays → strip_at (slice_index_or rays k d) ≡ strip
+
+-- the key is the strip of the bundle's midpoint, and then how far across it stands
+pub record IsKeyOf (bits : ℕ) (b : Bundle) (key : ℕ) : Type 0 where
+  pub strip : key / 8589934592 ≡ strip_of bits (twice_middle b)
+  pub across : key ≡ key / 8589934592 * 8589934592 + above_least (twice_across b)
+
+-- the key is that of the ray's bundle
 abbrev pub IsKeyed : ℕ → Ray → Type 0
-IsKeyed bits r = strip_at r ≡ strip_of bits (twice_middle r.bundle)
+IsKeyed bits r = IsKeyOf bits r.bundle r.key
 
 -- no number of the sum is beyond n
 abbrev pub IsSmallRay : ℕ → Ray → Type 0

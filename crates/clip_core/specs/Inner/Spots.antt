@@ -1,18 +1,18 @@
 -- Keys of bundles, by which rays are ordered.
-use Rattle.std.specs.Prelude.{ℕ, ◌≡◌, ◌≤◌, ◌<◌, ◌/◌, List, length, slice_index_or}
+use Rattle.std.specs.Prelude.{ℕ, ◌≡◌, ◌≤◌, ◌<◌, List, length, slice_index_or}
 use Rattle.clip_core.specs.declared.bundles.Bundle.{Bundle}
 use Rattle.clip_core.specs.declared.rays.Ray.{Ray}
 use Rattle.clip_core.specs.declared.spots.Spot.{Spot}
-use Rattle.clip_core.specs.Inner.Rays.{nowhere, strip_of, twice_middle}
+use Rattle.clip_core.specs.Inner.Rays.{nowhere, IsKeyOf}
 
 -- what an index past the end would read
 abbrev pub no_spot : Spot
 no_spot = record { key = 0; index = 0 }
 
--- the key begins with the strip of the midpoint of the bundle at the index
+-- the key is that of the bundle at the index
 pub record IsSpotOf (bits : ℕ) (bundles : List Bundle) (s : Spot) : Type 0 where
   pub within : s.index < length bundles
-  pub keyed : s.key / 8589934592 ≡ strip_of bits (twice_middle (slice_index_or bundles s.index nowhere))
+  pub keyed : IsKeyOf bits (slice_index_or bundles s.index nowhere) s.key
 
 -- each spot has the index of its own place
 abbrev pub AreNumbered : List Spot → Type 0

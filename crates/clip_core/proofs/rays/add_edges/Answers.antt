@@ -3,7 +3,7 @@ use Rattle.clip_core.specs.Inner.Raises.{ray_at}
 use Rattle.clip_core.proofs.Shares.{so_far-step, still-rising, still-keyed, share-small}
 use Rattle.clip_core.proofs.Tallies.{nothing}
 use Rattle.clip_core.proofs.Begun.{firsts-stay}
-use Rattle.clip_core.proofs.Stretches.{hulls-stay, all-wider, edges-begin, edges-small}
+use Rattle.clip_core.proofs.Stretches.{all-wider, edges-begin, edges-small}
 use Rattle.clip_core.proofs.rays.add_edges.Goals as goal
 
 pub loop-m-init : goal.loop-m-init
@@ -29,16 +29,6 @@ loop-m-preserved c =
           so_far-step c.args.all.now c.loop-m.m-index (get_or c.args.rays.now.items k d) (ray_at rays raises k d) (ray_at new news k d) c.loop-m-test.true (share-small (get_or c.args.all.now c.loop-m.m-index nothing)) (c.add_edge.ensures.exact k d below) (h.so_far k d (omega (arith, c.add_edge.ensures.count, below)));
       small = all-wider (100000 * c.loop-m.m-index + 100000) (100000 * (c.loop-m.m-index + 1)) new news (omega arith) (c.add_edge.ensures.small (100000 * c.loop-m.m-index) h.small);
     }
-
-pub add_edge-requires-clause-wide : goal.add_edge-requires-clause-wide
-add_edge-requires-clause-wide c =
-    let h = c.loop-m.invariant in
-    hulls-stay 256 c.args.wide.now c.args.rays.now.items c.loop-m.rays.items h.count (λ k d below. (h.so_far k d (omega (arith, h.count, below))).bundle) c.requires.wide
-
-pub add_edge-requires-clause-narrow : goal.add_edge-requires-clause-narrow
-add_edge-requires-clause-narrow c =
-    let h = c.loop-m.invariant in
-    hulls-stay 16 c.args.narrow.now c.args.rays.now.items c.loop-m.rays.items h.count (λ k d below. (h.so_far k d (omega (arith, h.count, below))).bundle) c.requires.narrow
 
 pub add_edge-requires-clause-starts : goal.add_edge-requires-clause-starts
 add_edge-requires-clause-starts c =

@@ -5,14 +5,8 @@ use Rattle.clip_core.proofs.Shares.{all-bare, all-keyed, all-told, full-has}
 use Rattle.clip_core.proofs.Stretches.{all-full}
 use Rattle.clip_core.proofs.rays.rays_of.Goals as goal
 
-pub hulls_of-requires-clause-few : goal.hulls_of-requires-clause-few
-hulls_of-requires-clause-few c = let same = ap length c.as_slice.ensures.value in omega (arith, same, c.in_ok-rays.ensures.count, c.requires.bundles_few)
-
-pub hulls_of-requires-2-clause-few : goal.hulls_of-requires-2-clause-few
-hulls_of-requires-2-clause-few c = let same = ap length c.as_slice-2.ensures.value in omega (arith, same, c.in_ok-rays.ensures.count, c.requires.bundles_few)
-
 pub starts_of-requires : goal.starts_of-requires
-starts_of-requires c = let same = ap length c.as_slice-3.ensures.value in omega (arith, same, c.in_ok-rays.ensures.count, c.requires.bundles_few)
+starts_of-requires c = let same = ap length c.as_slice.ensures.value in omega (arith, same, c.in_ok-rays.ensures.count, c.requires.bundles_few)
 
 pub add_edges-requires-clause-bare : goal.add_edges-requires-clause-bare
 add_edges-requires-clause-bare c = all-bare c.strip_bits-bits.result c.args.bundles.now c.in_ok-rays.rays.items c.in_ok-rays.ensures.are
@@ -30,8 +24,8 @@ returns-clause-told c =
     let sorted = c.in_ok-rays.rays.items in
     let rays = c.add_edges.new.rays.items in
     let new = c.lift.new.rays.items in
-    let raises = c.as_slice-6.result.now in
-    let full = subst (λ (ws : List Windings). AreFull all sorted rays ws) (sym c.as_slice-6.ensures.value) c.add_edges.ensures.exact in
+    let raises = c.as_slice-2.result.now in
+    let full = subst (λ (ws : List Windings). AreFull all sorted rays ws) (sym c.as_slice-2.ensures.value) c.add_edges.ensures.exact in
     all-told c.strip_bits-bits.result all bundles sorted new (c.lift.ensures.count ∙ c.add_edges.ensures.count) c.in_ok-rays.ensures.are (all-full all sorted rays new raises c.lift.ensures.count full c.lift.ensures.exact)
 
 pub returns-clause-each : goal.returns-clause-each
@@ -41,6 +35,6 @@ returns-clause-each c =
     let sorted = c.in_ok-rays.rays.items in
     let rays = c.add_edges.new.rays.items in
     let new = c.lift.new.rays.items in
-    let raises = c.as_slice-6.result.now in
-    let full = subst (λ (ws : List Windings). AreFull all sorted rays ws) (sym c.as_slice-6.ensures.value) c.add_edges.ensures.exact in
+    let raises = c.as_slice-2.result.now in
+    let full = subst (λ (ws : List Windings). AreFull all sorted rays ws) (sym c.as_slice-2.ensures.value) c.add_edges.ensures.exact in
     full-has all bundles sorted new (c.lift.ensures.count ∙ c.add_edges.ensures.count) c.in_ok-rays.ensures.each (all-full all sorted rays new raises c.lift.ensures.count full c.lift.ensures.exact)

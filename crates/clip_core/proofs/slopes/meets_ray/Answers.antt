@@ -1,7 +1,7 @@
 use Rattle.std.proofs.Common.{◌-ℤ◌, ◌∙◌, FitsSigned, w32, w64, rules}
 use Rattle.std.specs.Int.{w128}
 use Rattle.std.proofs.lemmas.Int.{to_z-of_z}
-use Rattle.clip_core.proofs.Boxed.{meets-is}
+use Rattle.clip_core.proofs.Beside.{meets-is}
 use Rattle.clip_core.proofs.slopes.meets_ray.Goals as goal
 
 pub returns : goal.returns

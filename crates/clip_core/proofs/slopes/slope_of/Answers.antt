@@ -1,6 +1,6 @@
 use Rattle.std.proofs.Common.{FitsSigned, w32, w64, rules}
 use Rattle.std.proofs.lemmas.Int.{to_z-of_z}
-use Rattle.clip_core.proofs.Boxed.{slope-is}
+use Rattle.clip_core.proofs.Beside.{slope-is}
 use Rattle.clip_core.proofs.slopes.slope_of.Goals as goal
 
 pub returns-clause-is : goal.returns-clause-is
@@ -13,19 +13,13 @@ returns-clause-is c =
     let f1 : FitsSigned w64 c.total-high.result = search rules in
     let f2 : FitsSigned w64 c.total-begin.result = search rules in
     let f3 : FitsSigned w64 c.total-end.result = search rules in
-    let f4 : FitsSigned w64 c.lesser.result = search rules in
-    let f5 : FitsSigned w64 c.greater.result = search rules in
     let f6 : FitsSigned w64 c.way.result = search rules in
     let f7 : FitsSigned w64 c.way-2.result = search rules in
     let e0 = simp to_z-of_z at c.total-low.ensures.exact in
     let e1 = simp to_z-of_z at c.total-high.ensures.exact in
     let e2 = simp to_z-of_z at c.total-begin.ensures.exact in
     let e3 = simp to_z-of_z at c.total-end.ensures.exact in
-    let l0 = simp to_z-of_z at c.lesser.ensures.first in
-    let l1 = simp to_z-of_z at c.lesser.ensures.second in
-    let r0 = simp to_z-of_z at c.greater.ensures.first in
-    let r1 = simp to_z-of_z at c.greater.ensures.second in
     let e6 = simp to_z-of_z at c.way.ensures.exact in
     let e7 = simp to_z-of_z at c.way-2.ensures.exact in
-    rw (to_z-of_z w64 c.total-low.result f0, to_z-of_z w64 c.total-high.result f1, to_z-of_z w64 c.total-begin.result f2, to_z-of_z w64 c.lesser.result f4, to_z-of_z w64 c.greater.result f5, to_z-of_z w64 c.way.result f6, to_z-of_z w64 c.way-2.result f7)
-    (slope-is c.args.ends c.total-low.result c.total-high.result c.total-begin.result c.total-end.result c.lesser.result c.greater.result c.way.result c.way-2.result e0 e1 e2 e3 l0 l1 r0 r1 e6 e7 c.total-low.ensures.small c.total-begin.ensures.small c.way.ensures.small c.way-2.ensures.small)
+    rw (to_z-of_z w64 c.total-low.result f0, to_z-of_z w64 c.total-begin.result f2, to_z-of_z w64 c.way.result f6, to_z-of_z w64 c.way-2.result f7)
+    (slope-is c.args.ends c.total-low.result c.total-high.result c.total-begin.result c.total-end.result c.way.result c.way-2.result e0 e1 e2 e3 e6 e7 c.total-low.ensures.small c.total-begin.ensures.small c.way.ensures.small c.way-2.ensures.small)
