@@ -1,22 +1,19 @@
 -- Midpoints that an edge has wholly on one side.
-use Rattle.std.proofs.Common.{◌≡◌, ◌⊎◌, inl, inr, ℕ, ℤ, pos, ◌+ℤ◌, ◌-ℤ◌, ◌*ℤ◌, ◌≤ℤ◌, ◌<ℤ◌, Bool, true, false, cond, ◌&&◌, ◌||◌, int_lt, List, [], ◌∷◌, ◌++◌, ◌+◌, ◌-◌, ◌*◌, ◌<◌, ◌≤◌, length, get_or, length-append, arith, refl, sym, ap, ◌∙◌, subst}
+use Rattle.std.proofs.Common.{◌≡◌, inl, inr, ℤ, pos, ◌+ℤ◌, ◌-ℤ◌, ◌*ℤ◌, ◌≤ℤ◌, ◌<ℤ◌, Bool, true, false, cond, ◌&&◌, int_lt, ◌≤◌, arith, refl, sym, ap, ◌∙◌, subst}
 use Rattle.std.specs.Prelude.{int_le, ◌^◌, unsigned_abs}
 use Rattle.std.proofs.lemmas.Int.{ints}
 use Rattle.std.proofs.lemmas.Bool.{and_parts}
-use Rattle.std.proofs.lemmas.List.{get_or_append_left}
-use Rattle.std.proofs.Math.Seq.{get_or-append_seam}
 use Rattle.clip_core.specs.declared.bundles.Bundle.{Bundle}
 use Rattle.clip_core.specs.declared.windings.Windings.{Windings}
 use Rattle.clip_core.specs.declared.rays.Ray.{Ray}
 use Rattle.clip_core.specs.Windings.{none, plus, reaches, stands_right}
-use Rattle.clip_core.specs.Inner.Rays.{no_ray, twice_middle, twice_across, ray_with}
-use Rattle.clip_core.specs.declared.slopes.Slope.{Slope}
+use Rattle.clip_core.specs.Inner.Rays.{twice_across, ray_with}
 use Rattle.clip_core.specs.Inner.Slopes.{IsSlope}
 use Rattle.clip_core.specs.Inner.Raises.{lifted}
 use Rattle.slice_base.proofs.Rings.{diff_of, diff-eq, diff-add, diff-sub, diff-mul}
 use Rattle.clip_core.proofs.Signs.{Sign, sign, pp, pn, nn, np, z*, *z}
 use Rattle.clip_core.proofs.Tallies.{plus_assoc}
-use Rattle.clip_core.proofs.Shares.{ray-same, any-default, below-or-not}
+use Rattle.clip_core.proofs.Shares.{ray-same}
 
 -- the two cross products as one
 turn-sum : (dx dy a c x z : ℤ) → ((dx *ℤ a) -ℤ (dy *ℤ x)) +ℤ ((dx *ℤ c) -ℤ (dy *ℤ z)) ≡ (dx *ℤ (a +ℤ c)) -ℤ (dy *ℤ (x +ℤ z))

@@ -1,5 +1,5 @@
 -- Edges added to rays, one by one.
-use Rattle.std.proofs.Common.{◌≡◌, ◌<◌, ◌≤◌, ◌+◌, ◌/◌, ℕ, zero, suc, ℤ, pos, negsuc, ◌+ℤ◌, ◌&&◌, Bool, true, false, cond, List, [], ◌∷◌, length, get_or, drop, inl, inr, ◌⊎◌, arith, refl, sym, ap, ◌∙◌, subst}
+use Rattle.std.proofs.Common.{◌≡◌, ◌<◌, ◌≤◌, ◌+◌, ℕ, zero, suc, ℤ, pos, negsuc, ◌+ℤ◌, ◌&&◌, Bool, true, false, cond, List, [], ◌∷◌, length, get_or, drop, inl, inr, ◌⊎◌, arith, refl, sym, ap, ◌∙◌, subst}
 use Rattle.std.specs.List.{All}
 use Rattle.std.specs.Int.RustNames.{unsigned_abs}
 use Rattle.std.proofs.lemmas.Int.{ints}
@@ -11,7 +11,7 @@ use Rattle.clip_core.specs.declared.rays.Ray.{Ray}
 use Rattle.clip_core.specs.Bundles.{is_lower, bundle_of}
 use Rattle.clip_core.specs.Windings.{direction_of, share_of, none, plus, tally_of, is_right_of, reaches, stands_right, sum_of}
 use Rattle.clip_core.specs.Inner.Small.{AreSmall}
-use Rattle.clip_core.specs.Inner.Rays.{nowhere, twice_middle, strip_of, ray_with, AreRising, IsKeyOf, IsKeyed, IsSmallRay, IsBare, IsFull, IsBareOf, IsTold, HaveRays}
+use Rattle.clip_core.specs.Inner.Rays.{nowhere, ray_with, AreRising, IsKeyOf, IsKeyed, IsSmallRay, IsBare, IsFull, IsBareOf, IsTold, HaveRays}
 use Rattle.clip_core.proofs.Tallies.{nothing, both, plus-none, tally_of-step, tally_of-end}
 
 -- an edge that misses a ray changes nothing

@@ -1,5 +1,5 @@
 -- An edge added to stretches of rays.
-use Rattle.std.proofs.Common.{◌≡◌, ◌<◌, ◌≤◌, ◌+◌, ◌-◌, ◌*◌, ℕ, suc, ◌+ℤ◌, true, false, cond, ◌/◌, List, [], length, get_or, set, take, drop, ◌++◌, inl, inr, ◌⊎◌, arith, refl, sym, ap, ◌∙◌, subst}
+use Rattle.std.proofs.Common.{◌≡◌, ◌<◌, ◌≤◌, ◌+◌, ◌*◌, ℕ, suc, ◌+ℤ◌, true, false, cond, ◌/◌, List, [], length, get_or, set, take, drop, ◌++◌, inl, inr, ◌⊎◌, arith, refl, sym, ap, ◌∙◌, subst}
 use Rattle.std.specs.List.{All}
 use Rattle.std.proofs.Math.Seq.{take-append_seam}
 use Rattle.std.specs.Prelude.{nat_le}

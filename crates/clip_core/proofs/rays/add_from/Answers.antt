@@ -1,4 +1,4 @@
-use Rattle.std.proofs.Common.{◌≡◌, ◌≤◌, ◌<◌, ◌+◌, ◌∙◌, ℕ, get_or, inl, inr, ◌⊎◌, arith, sym, ap, subst}
+use Rattle.std.proofs.Common.{◌≡◌, ◌≤◌, ◌<◌, ◌+◌, ◌∙◌, get_or, inl, inr, ◌⊎◌, arith, sym, ap, subst}
 use Rattle.clip_core.specs.declared.rays.Ray.{Ray}
 use Rattle.clip_core.specs.Inner.Rays.{strip_at}
 use Rattle.clip_core.specs.Inner.Starts.{IsFirst}

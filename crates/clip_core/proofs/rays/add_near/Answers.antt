@@ -1,4 +1,4 @@
-use Rattle.std.proofs.Common.{◌^◌, ◌+◌, [], arith}
+use Rattle.std.proofs.Common.{◌^◌, ◌+◌, arith}
 use Rattle.clip_core.proofs.Stretches.{adds-none, adds-both, rays-small}
 use Rattle.clip_core.proofs.rays.add_near.Goals as goal
 
