@@ -37,7 +37,8 @@ fn base_of(rays: &[Ray]) -> u64
     strip_at(rays[0])
 }
 
-// How many strips are listed: up to that of the last ray, and not many more than there are rays. Any count is right.
+// How many strips are listed: up to the one above that of the last ray, and not many more than there are rays. Any
+// count is right.
 fn count_from(rays: &[Ray], base: u64) -> usize
     requires few { length rays.now ≤ 100000 }
     ensures some { 0 < result }
@@ -47,7 +48,7 @@ fn count_from(rays: &[Ray], base: u64) -> usize
         return 1;
     }
     let above = strip_at(rays[rays.len() - 1]).saturating_sub(base);
-    above.min(rays.len() as u64 * 9) as usize + 1
+    above.min(rays.len() as u64 * 9) as usize + 2
 }
 
 fn push_first(firsts: &mut Vec<usize>, i: usize) -> Result<(), NoMemory>

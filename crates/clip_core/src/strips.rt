@@ -78,7 +78,7 @@ fn extent(bundles: &[Bundle]) -> u64 {
 
 /// Strips are two to this power high, so that a shift tells them. An edge takes a search in each strip that it goes
 /// through, and looks at half of the midpoints in the two where it ends: the height is about what makes both cost as
-/// much. Any height is right.
+/// much, and so great that there are at most some two strips to a bundle. Any height is right.
 pub(crate) fn strip_bits(bundles: &[Bundle]) -> u32
     ensures least { 2 ≤ result }
     ensures most { result ≤ 40 }
@@ -88,6 +88,12 @@ pub(crate) fn strip_bits(bundles: &[Bundle]) -> u32
         heights = heights.saturating_add(u64::from(b.high.y.abs_diff(b.low.y)));
     }
     let count = (bundles.len() as u64).max(1);
-    let square = (heights / count).saturating_mul(extent(bundles)) / count;
-    ((64 - square.leading_zeros()) / 2 + 2).clamp(2, 40)
+    let extent = extent(bundles);
+    let square = (heights / count).saturating_mul(extent) / count;
+    let balanced = bits_in(square) / 2 + 2;
+    bits_in(extent / count).max(balanced).clamp(2, 40)
+}
+
+fn bits_in(n: u64) -> u32 {
+    64 - n.leading_zeros()
 }
