@@ -40,7 +40,7 @@ fn with_keys(alloc: Global, points: &[Pt]) -> Result<Vec<Keyed>, NoMemory>
     ensures keyed { IfOk result (λ all. all.items ≡ keyed_from 0 points.now) }
     ensures keyable { IfOk result (λ all. (k : ℕ) → k < length points.now → IsKeyable (point_at points.now k)) }
 {
-    let mut all = Vec::new(alloc);
+    let mut all = Vec::with_capacity(alloc, points.len())?;
     for index in 0..points.len() {
         all.push(Keyed {
             key: key_of(points[index]),
