@@ -129,7 +129,8 @@ fn halved(rays: &[Ray], bounds: Bounds, key: u64) -> Bounds
     ensures within { result.high ≤ bounds.high }
     ensures ordered { result.low ≤ result.high }
     ensures less { result.high - result.low < bounds.high - bounds.low }
-    ensures below { (k : ℕ) (d : Ray) → bounds.low ≤ k → k < result.low → is_below key (slice_index_or rays.now k d) ≡ true }
+    ensures below { (k : ℕ) (d : Ray) → bounds.low ≤ k → k < result.low
+        → is_below key (slice_index_or rays.now k d) ≡ true }
 {
     let middle = bounds.low + (bounds.high - bounds.low) / 2;
     if is_below(key, rays[middle]) {

@@ -28,8 +28,8 @@ returns c =
     let rising = still-rising rays new count keys c.requires.rising in
     let there = strip-stays f s strip i end near stop rays new mids mids second c.requires.in_strip in
     let past : (k : ℕ) (d : Ray) → stop ≤ k → k < end → k < length new → strip * 8589934592 + m.breadth.right < (get_or new k d).key = λ k d le lt below.
-        let over = above-keys c.key_in.result new stop k d rising le below (c.add_near.ensures.past d (omega (arith, le, lt))) in
-        omega (arith, over, c.key_in.ensures) in
+    let over = above-keys c.key_in.result new stop k d rising le below (c.add_near.ensures.past d (omega (arith, le, lt))) in
+    omega (arith, over, c.key_in.ensures) in
     let third : Adds f s stop end new mids new mids = adds-right m strip stop end new mids c.requires.member c.add_near.ensures.within (adds-keyed m.bits f s near stop rays new mids mids second c.requires.keyed) (λ k d le lt below. there k d (omega (arith, le, c.add_near.ensures.later, c.add_left-near.ensures.later)) lt below) past in
     subst (λ (rs : List Ray). Adds f s i end rays raises rs mids) (sym (written c.args.rays.now.len new rays as_long))
     (adds-both f s i near end rays rays new raises mids mids c.add_left-near.ensures.later (omega (arith, c.add_near.ensures.later, c.add_near.ensures.within)) first
