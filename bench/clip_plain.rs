@@ -1,6 +1,7 @@
 // Cuts and clips as the crates `edge_cut` and `clip_core` do, as a plain program in Rust: `bench/clip` takes its time
-// beside theirs, and compares what both make. The algorithm is theirs: pairs by a sort of boxes in columns, cheap exact
-// tests, later passes only with a new edge, bundles, sums over midpoints with boxes round 16 and 256 of them, chains.
+// beside theirs, and compares what both make. The algorithm is much like theirs: meetings by a sort of boxes in columns,
+// cheap exact tests, later passes only with a new edge, bundles, chains; but midpoints stand by height alone, with boxes
+// round 16 and 256 of them, where theirs stand by strips.
 //
 //   clip_plain make MOST           prints the inputs that are timed, of 100 edges up to MOST
 //   clip_plain random COUNT SEED   prints so many small inputs that are drawn
