@@ -1,6 +1,5 @@
 -- Where an outline crosses a line.
-use Rattle.std.specs.Prelude.{ℕ, ℤ, ◌-ℤ◌, int_lt, int_le, Bool, cond, ◌&&◌, List, [], ◌∷◌, ◌++◌}
-use Rattle.slice_base.specs.declared.points.Pt.{Pt}
+use Rattle.std.specs.Prelude.{ℤ, ◌-ℤ◌, int_lt, int_le, cond, ◌&&◌, List, [], ◌∷◌, ◌++◌}
 use Rattle.slice_base.specs.Shapes.{Points, Loops}
 use Rattle.slice_base.specs.Whole.{way_of}
 use Rattle.infill_lines.specs.declared.angles.Angle.{Angle}

@@ -2,12 +2,11 @@
 
 ghost use Rattle.std.specs.Prelude.{◌≡◌, ◌+◌, ◌*◌, ◌≤◌, ◌<◌, ◌+ℤ◌, ◌-ℤ◌};
 ghost use Rattle.std.specs.Int.RustNames.{unsigned_abs};
-ghost use Rattle.slice_base.specs.Whole.{round_nat};
 ghost use Rattle.slice_base.specs.Plane.{InSquare};
 ghost use Rattle.infill_lines.specs.Angles.{place_of, half, point_of, step_of};
 ghost use Rattle.infill_lines.specs.Inner.Places.{IsPlace};
 
-use slice_base::Pt;
+use slice_base::{Pt, round_nat};
 
 /// The angle of the lines that fill a region, in degrees.
 #[derive(Clone, Copy, PartialEq, Eq, Debug)]
@@ -113,16 +112,6 @@ pub(crate) fn point_of(angle: Angle, at: Place) -> Pt
         Angle::A45 => behind(at),
         Angle::A135 => before(at),
     }
-}
-
-fn round_nat(n: u64, d: u64) -> u64
-    requires positive { 0 < d }
-    requires small { n < 100000000 }
-    ensures { result ≡ round_nat n d }
-{
-    let q = n / d;
-    let r = n % d;
-    if r >= d - r { q + 1 } else { q }
 }
 
 pub(crate) fn step_of(angle: Angle, step: u64) -> u64

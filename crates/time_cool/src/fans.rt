@@ -1,20 +1,11 @@
 // The fan.
 
-ghost use Rattle.std.specs.Prelude.{◌≡◌, ◌*◌, ◌<◌, ◌≤◌, ◌^◌};
+ghost use Rattle.std.specs.Prelude.{◌≡◌, ◌*◌, ◌<◌, ◌≤◌};
 ghost use Rattle.slice_base.specs.Whole.{round_nat};
 ghost use Rattle.time_cool.specs.Fans.{fan_of};
 
 use settings_core::Settings;
-
-fn round_nat(n: u64, d: u64) -> u64
-    requires positive { 0 < d }
-    requires small { n < 2 ^ 62 }
-    ensures { result ≡ round_nat n d }
-{
-    let q = n / d;
-    let r = n % d;
-    if r >= d - r { q + 1 } else { q }
-}
+use slice_base::round_nat;
 
 // A power in the proportion of one number to a greater one.
 fn part_of(power: u64, number: u64, whole: u64) -> u64
