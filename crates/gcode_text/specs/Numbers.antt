@@ -11,11 +11,13 @@ digit_of n place = 48 + n / place % 10
 abbrev pub thousandths_of : ℕ → Bytes
 thousandths_of n = decimal (n / 1000) ++ 46 ∷ digit_of n 100 ∷ digit_of n 10 ∷ (48 + n % 10) ∷ []
 
+-- a point and the last five digits
+abbrev pub five_of : ℕ → Bytes
+five_of n = 46 ∷ digit_of n 10000 ∷ digit_of n 1000 ∷ digit_of n 100 ∷ digit_of n 10 ∷ (48 + n % 10) ∷ []
+
 -- hundred-thousandths with five decimals
 abbrev pub hundred_thousandths_of : ℕ → Bytes
-hundred_thousandths_of n =
-    decimal (n / 100000)
-    ++ 46 ∷ digit_of n 10000 ∷ digit_of n 1000 ∷ digit_of n 100 ∷ digit_of n 10 ∷ (48 + n % 10) ∷ []
+hundred_thousandths_of n = decimal (n / 100000) ++ five_of n
 
 -- millionths with six decimals
 abbrev pub millionths_of : ℕ → Bytes

@@ -1,8 +1,8 @@
 // Puts numbers and words into a line, behind what it has. Each says how many bytes it takes at most.
 
-ghost use Rattle.std.specs.Prelude.{◌≡◌, ◌+◌, ◌*◌, ◌<◌, ◌≤◌, ◌^◌, ◌++◌, length, decimal};
+ghost use Rattle.std.specs.Prelude.{◌≡◌, ◌+◌, ◌*◌, ◌%◌, ◌<◌, ◌≤◌, ◌^◌, ◌++◌, length, decimal};
 ghost use Rattle.arrayvec.specs.ArrayVec.{array_vec_len};
-ghost use Rattle.gcode_text.specs.Numbers.{thousandths_of, hundred_thousandths_of, millionths_of, sign_of, millimetres_of};
+ghost use Rattle.gcode_text.specs.Numbers.{five_of, thousandths_of, hundred_thousandths_of, millionths_of, sign_of, millimetres_of};
 ghost use Rattle.gcode_text.specs.Words.{feed_of, feed_if_given, point_of, height_if_given, extrusion_of};
 
 use arrayvec::ArrayVec;
@@ -10,6 +10,9 @@ use slice_base::Pt;
 
 /// The bytes of one line; the longest that there can be has 89.
 pub type Line = ArrayVec<u8, 160>;
+
+/// The greatest number that fits 64 bits.
+const SHORT: u128 = 0xffff_ffff_ffff_ffff;
 
 // A number with a sign, in a struct since contracts then see it as it is.
 #[derive(Clone, Copy)]
@@ -60,21 +63,38 @@ fn append_thousandths(line: &mut Line, n: u64)
     append(line, &decimals);
 }
 
+// A point and five decimals: the last five digits of the number, which are told.
+fn append_five(line: &mut Line, n: u128, last: u32)
+    requires room { array_vec_len line.old + 6 ≤ 160 }
+    requires last { last ≡ n % 100000 }
+    ensures items { line.new.items ≡ line.old.items ++ five_of n }
+    ensures len { array_vec_len line.new ≡ array_vec_len line.old + 6 }
+{
+    let decimals = [
+        b'.',
+        b'0' + (last / 10_000) as u8,
+        b'0' + (last / 1000 % 10) as u8,
+        b'0' + (last / 100 % 10) as u8,
+        b'0' + (last / 10 % 10) as u8,
+        b'0' + (last % 10) as u8,
+    ];
+    append(line, &decimals);
+}
+
+// A division in 64 bits takes a fraction of the time of one in 128.
 fn append_hundred_thousandths(line: &mut Line, n: u128)
     requires { array_vec_len line.old + 45 ≤ 160 }
     ensures items { line.new.items ≡ line.old.items ++ hundred_thousandths_of n }
     ensures len { array_vec_len line.new ≤ array_vec_len line.old + 45 }
 {
+    if n <= SHORT {
+        let short = n as u64;
+        append_decimal(line, short / 100_000);
+        append_five(line, n, (short % 100_000) as u32);
+        return;
+    }
     append_wide_decimal(line, n / 100_000);
-    let decimals = [
-        b'.',
-        b'0' + (n / 10_000 % 10) as u8,
-        b'0' + (n / 1000 % 10) as u8,
-        b'0' + (n / 100 % 10) as u8,
-        b'0' + (n / 10 % 10) as u8,
-        b'0' + (n % 10) as u8,
-    ];
-    append(line, &decimals);
+    append_five(line, n, (n % 100_000) as u32);
 }
 
 pub(crate) fn append_millionths(line: &mut Line, n: u128)
