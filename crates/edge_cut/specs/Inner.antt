@@ -2,6 +2,7 @@
 pub mod Heights
 pub mod Indices
 pub mod Columns
+pub mod Marks
 pub mod Meetings
 pub mod Sides
 pub mod Gathered

@@ -133,6 +133,30 @@ fn four_edges(lengths: u64, count: u64) -> u32 {
     width as u32
 }
 
+/// The cells of a grid: two to these powers wide and high.
+#[derive(Clone, Copy)]
+pub(crate) struct Grid {
+    pub(crate) wide: u32,
+    pub(crate) high: u32,
+}
+
+fn bits_in(n: u64) -> u32 {
+    64 - n.leading_zeros()
+}
+
+// The power of two that is two to four times the length of a span.
+fn twice_to_four_times(lengths: u64, count: u64) -> u32 {
+    bits_in(lengths / count.max(1)).saturating_add(1).min(31)
+}
+
+/// The grid whose cells are two to four times the size of an edge. Of time alone.
+pub(crate) fn grid_of(cover: Cover) -> Grid {
+    Grid {
+        wide: twice_to_four_times(cover.widths, cover.count),
+        high: twice_to_four_times(cover.heights, cover.count),
+    }
+}
+
 /// How wide the columns are: 0, for one that holds all, unless many boxes overlap along the axis. Of time alone.
 pub(crate) fn column_width(cover: Cover, lies: bool) -> u32 {
     if lies && are_many(cover.widths, length(cover.wide)) {

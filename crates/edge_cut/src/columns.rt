@@ -1,7 +1,7 @@
 // The boxes round edges, filed in the columns that they touch. In a column they stand by their low ends, so that
 // those which can touch one of them stand in one stretch behind it.
 
-ghost use Rattle.std.specs.Prelude.{◌≡◌, ◌+◌, ◌*◌, ◌<◌, ◌≤◌, ◌/◌, ◌++◌, [], ◌∷◌, ℕ, Bool, List, length, OnOk, IfOk, nat_le};
+ghost use Rattle.std.specs.Prelude.{◌≡◌, ◌+◌, ◌*◌, ◌<◌, ◌≤◌, ◌/◌, ◌++◌, [], ◌∷◌, ℕ, Bool, true, List, length, OnOk, IfOk, nat_le};
 ghost use Rattle.std.specs.List.{All, Contains};
 ghost use Rattle.edge_cut.specs.declared.passes.Marked.{Marked};
 ghost use Rattle.edge_cut.specs.Inner.Heights.{height_of, width_of};
@@ -48,14 +48,14 @@ pub(crate) struct Filed {
     pub(crate) extent: Extent,
 }
 
-// A coordinate.
+/// A coordinate.
 #[derive(Clone, Copy)]
-struct Coordinate {
-    at: i32,
+pub(crate) struct Coordinate {
+    pub(crate) at: i32,
 }
 
-// How far it stands above the least one.
-fn above_least(x: Coordinate) -> u32
+/// How far it stands above the least one.
+pub(crate) fn above_least(x: Coordinate) -> u32
     ensures { result ≡ above_least x.at }
 {
     (x.at as i64 + 2_147_483_648).unsigned_abs() as u32
@@ -146,34 +146,57 @@ fn file(files: &mut Vec<Filed>, extent: Extent, width: u32) -> Result<(), NoMemo
     Ok(())
 }
 
-fn files_of(alloc: Global, lies: bool, width: u32, all: &[Marked]) -> Result<Vec<Filed>, NoMemory>
-    requires { length all.now ≤ 100000 }
-    ensures { IfOk result (λ files. AreFiled lies width all.now files.items) }
+// Files the box, if it is that of an edge near a new one.
+fn file_near(files: &mut Vec<Filed>, extent: Extent, width: u32, near: bool) -> Result<(), NoMemory>
+    ensures kept { OnOk result (KeepsFiles files.old.items files.new.items) }
+    ensures are { OnOk result ((lies : Bool) → (all : List Marked) → IsExtentOf lies all extent
+        → All (IsFileOf lies all) files.old.items → All (IsFileOf lies all) files.new.items) }
+    ensures each { OnOk result (near ≡ true → IsFiled width extent files.new.items) }
+{
+    if !near {
+        return Ok(());
+    }
+    file(files, extent, width)
+}
+
+fn files_of(
+    alloc: Global,
+    lies: bool,
+    width: u32,
+    all: &[Marked],
+    near: &[bool],
+) -> Result<Vec<Filed>, NoMemory>
+    requires few { length all.now ≤ 100000 }
+    requires same { length near.now ≡ length all.now }
+    ensures { IfOk result (λ files. AreFiled lies width all.now near.now files.items) }
 {
     let mut files = Vec::with_capacity(alloc, all.len() * 2)?;
     for index in 0..all.len() {
-        file(
+        file_near(
             &mut files,
             extent_of(lies, index as u32, all[index].edge),
             width,
+            near[index],
         )?;
     }
     Ok(files)
 }
 
-/// The boxes of all edges, by their keys. `lies` says along which axis they are taken, and `width` how wide the columns
+/// The boxes of the edges that are near new ones, by their keys. `lies` says along which axis they are taken, and `width` how wide the columns
 /// across it are.
 pub(crate) fn sorted(
     alloc: Global,
     lies: bool,
     width: u32,
     all: &[Marked],
+    near: &[bool],
 ) -> Result<Vec<Filed>, NoMemory>
-    requires { length all.now ≤ 100000 }
-    ensures filed { IfOk result (λ files. AreFiled lies width all.now files.items) }
+    requires few { length all.now ≤ 100000 }
+    requires same { length near.now ≡ length all.now }
+    ensures filed { IfOk result (λ files. AreFiled lies width all.now near.now files.items) }
     ensures rising { IfOk result (λ files. AreRising files.items) }
 {
-    let mut files = files_of(alloc, lies, width, all)?;
+    let mut files = files_of(alloc, lies, width, all, near)?;
     files.sort_unstable_by_key(|f| f.key);
     Ok(files)
 }

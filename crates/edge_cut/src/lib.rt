@@ -8,6 +8,7 @@ mod columns;
 mod crossings;
 mod cutting;
 mod laws;
+mod marks;
 mod meetings;
 mod passes;
 mod sides;

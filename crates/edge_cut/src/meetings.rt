@@ -8,9 +8,10 @@ ghost use Rattle.edge_cut.specs.Inner.Meetings.{Lists, ListsBoth, Keeps, Compare
 ghost use Rattle.edge_cut.specs.Inner.News.{AreSettled};
 ghost use Rattle.edge_cut.specs.Inner.Sides.{AreSides};
 
-use crate::boxes::are_apart;
+use crate::boxes::{Grid, are_apart};
 use crate::columns::{Extent, Filed, is_up_to, limit_of, sorted};
 use crate::crossings::end_on;
+use crate::marks::near_of;
 use crate::passes::Marked;
 use crate::sides::{Sides, are_level, are_on_line, both_at_ends, is_end, meeting_of, sides_of};
 use slice_base::{Edge, NoMemory, Pt};
@@ -275,14 +276,15 @@ fn meetings_of(
 }
 
 /// All meetings of these edges with each other but for those at own ends, by the indices of the edges, some of them
-/// maybe more than once. `lies` says along which axis the boxes are taken, and `width` how wide the columns across
-/// it are: any are right, and some may be fast.
+/// maybe more than once. `lies` says along which axis the boxes are taken, `width` how wide the columns across it are,
+/// and `grid` by which cells edges are known to be far from new ones: any are right, and some may be fast.
 pub(crate) fn find_meetings(
     alloc: Global,
     all: &[Marked],
     news: &[bool],
     lies: bool,
     width: u32,
+    grid: Grid,
 ) -> Result<Vec<Meeting>, MeetingFault>
     requires few { length all.now ≤ 100000 }
     requires settled { AreSettled all.now news.now }
@@ -290,7 +292,8 @@ pub(crate) fn find_meetings(
     ensures are { IfOk result (λ meetings. AreMeetings all.now meetings.items) }
     ensures rising { IfOk result (λ meetings. ByIndex meetings.items) }
 {
-    let files = sorted(alloc, lies, width, all)?;
+    let near = near_of(alloc, grid, all, news)?;
+    let files = sorted(alloc, lies, width, all, near.as_slice())?;
     let mut meetings = meetings_of(alloc, all, news, lies, files.as_slice())?;
     meetings.sort_unstable_by_key(|m| m.index);
     Ok(meetings)

@@ -1,5 +1,5 @@
 -- The boxes round edges, filed in the columns that they touch.
-use Rattle.std.specs.Prelude.{ℕ, ℤ, pos, ◌≡◌, ◌<◌, ◌≤◌, ◌+◌, ◌*◌, ◌/◌, ◌+ℤ◌, int_le, Bool, cond, List, length, slice_index_or}
+use Rattle.std.specs.Prelude.{ℕ, ℤ, pos, ◌≡◌, ◌<◌, ◌≤◌, ◌+◌, ◌*◌, ◌/◌, ◌+ℤ◌, int_le, Bool, true, false, cond, List, length, slice_index_or}
 use Rattle.std.specs.List.{All, Contains}
 use Rattle.std.specs.Int.RustNames.{unsigned_abs}
 use Rattle.slice_base.specs.declared.points.Edge.{Edge}
@@ -80,7 +80,8 @@ abbrev pub IsFiled : ℕ → Extent → List Filed → Type 0
 IsFiled width x files =
     (c : ℕ) → column_of width x.across.low ≤ c → c ≤ column_of width x.across.high → Contains files (filed_at c x)
 
--- each edge is filed in each column that its box touches
-pub record AreFiled (lies : Bool) (width : ℕ) (all : List Marked) (files : List Filed) : Type 0 where
+-- each edge that is told to be near a new one is filed in each column that its box touches
+pub record AreFiled (lies : Bool) (width : ℕ) (all : List Marked) (near : List Bool) (files : List Filed) : Type 0 where
   pub are : All (IsFileOf lies all) files
-  pub each : (i : ℕ) → i < length all → IsFiled width (extent_of lies i (slice_index_or all i nothing).edge) files
+  pub each : (i : ℕ) → i < length all → slice_index_or near i false ≡ true
+      → IsFiled width (extent_of lies i (slice_index_or all i nothing).edge) files

@@ -20,13 +20,14 @@ loop-index-preserved c =
     let lies = c.args.lies in
     let width = c.args.width in
     let old = c.loop-index.files.items in
-    let new = c.file.new.files.items in
+    let new = c.file_near.new.files.items in
     let h = c.loop-index.invariant in
-    let told = c.in_ok-file.ensures in
+    let told = c.in_ok-file_near.ensures in
     let of : IsExtentOf lies all c.extent_of.result = subst (λ (x : Extent). IsExtentOf lies all x) (sym c.extent_of.ensures) (record { within = c.loop-index-test.true; is = refl }) in
     record {
       are = told.are lies all of h.are;
-      each = one-filed lies width all old new index told.kept h.each (subst (λ (x : Extent). IsFiled width x new) c.extent_of.ensures told.each);
+      each = one-filed lies width all c.args.near.now old new index told.kept h.each
+          (λ near. subst (λ (x : Extent). IsFiled width x new) c.extent_of.ensures (told.each near));
     }
 
 pub returns : goal.returns
