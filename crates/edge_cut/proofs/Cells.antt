@@ -1,5 +1,5 @@
 -- Marks of cells, and edges whose boxes touch no marked one.
-use Rattle.std.proofs.Common.{◌≡◌, ◌<◌, ◌+◌, ◌^◌, ◌%◌, ℕ, Bool, true, false, List, [], ◌∷◌, ◌++◌, length, get_or, inl, inr, ◌⊎◌, arith, refl, sym, ap, ◌∙◌, subst}
+use Rattle.std.proofs.Common.{◌≡◌, ◌<◌, ◌+◌, ℕ, Bool, true, false, List, [], ◌∷◌, ◌++◌, length, get_or, inl, inr, ◌⊎◌, arith, refl, sym, ap, ◌∙◌, subst}
 use Rattle.std.proofs.Math.ListN.{get_or-append}
 use Rattle.std.proofs.lemmas.List.{get_or_push}
 use Rattle.slice_base.specs.declared.points.Edge.{Edge}
@@ -30,8 +30,8 @@ apart-by : (g : Grid) (e f : Edge) (cells : List Bool) (a b : Bool) → PatchIs 
 apart-by g e f cells false b clear marked beside above = inl beside
 apart-by g e f cells true false clear marked beside above = inr above
 apart-by g e f cells true true clear marked beside above =
-    let x = common (2 ^ (g.wide % 32)) false 0 0 e f beside in
-    let y = common (2 ^ (g.high % 32)) true 0 0 e f above in
+    let x = common g.wide false 0 0 e f beside in
+    let y = common g.high true 0 0 e f above in
     let is : get_or cells (place_of x.at y.at) false ≡ false = clear x.at x.after_first x.before_first y.at y.after_first y.before_first in
     let isnt : get_or cells (place_of x.at y.at) false ≡ true = marked x.at x.after_second x.before_second y.at y.after_second y.before_second in
     absurd (cc)

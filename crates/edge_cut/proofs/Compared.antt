@@ -189,12 +189,12 @@ all-below all meetings fs r over so_far q lt = so_far q (omega arith)
 
 -- the boxes of all edges, each filed in the columns that it touches
 
-pub one-filed : (lies : Bool) (width : ℕ) (all : List Marked) (near : List Bool) (old new : List Filed) (index : ℕ) → KeepsFiles old new → ((i : ℕ) → i < index → get_or near i false ≡ true → IsFiled width (extent_of lies i (get_or all i nothing).edge) old) → (get_or near index false ≡ true → IsFiled width (extent_of lies index (get_or all index nothing).edge) new) → (i : ℕ) → i < index + 1 → get_or near i false ≡ true → IsFiled width (extent_of lies i (get_or all i nothing).edge) new
-one-filed lies width all near old new index kept so_far here i lt is = pick (below-or-last i index lt)
+pub one-filed : (lies : Bool) (bits : ℕ) (all : List Marked) (near : List Bool) (old new : List Filed) (index : ℕ) → KeepsFiles old new → ((i : ℕ) → i < index → get_or near i false ≡ true → IsFiled bits (extent_of lies i (get_or all i nothing).edge) old) → (get_or near index false ≡ true → IsFiled bits (extent_of lies index (get_or all index nothing).edge) new) → (i : ℕ) → i < index + 1 → get_or near i false ≡ true → IsFiled bits (extent_of lies i (get_or all i nothing).edge) new
+one-filed lies bits all near old new index kept so_far here i lt is = pick (below-or-last i index lt)
   where
-    pick : (i < index) ⊎ (i ≡ index) → IsFiled width (extent_of lies i (get_or all i nothing).edge) new
+    pick : (i < index) ⊎ (i ≡ index) → IsFiled bits (extent_of lies i (get_or all i nothing).edge) new
     pick (inl h) = λ c after before. kept (filed_at c (extent_of lies i (get_or all i nothing).edge)) (so_far i h is c after before)
-    pick (inr h) = subst (λ (k : ℕ). get_or near k false ≡ true → IsFiled width (extent_of lies k (get_or all k nothing).edge) new) (sym h) here is
+    pick (inr h) = subst (λ (k : ℕ). get_or near k false ≡ true → IsFiled bits (extent_of lies k (get_or all k nothing).edge) new) (sym h) here is
 
 pub one-column : (x : Extent) (old new : List Filed) (first column : ℕ) → KeepsFiles old new → ((c : ℕ) → first ≤ c → c < column → Contains old (filed_at c x)) → Contains new (filed_at column x) → (c : ℕ) → first ≤ c → c < column + 1 → Contains new (filed_at c x)
 one-column x old new first column kept so_far here c after lt = pick (below-or-last c column lt)
@@ -223,8 +223,8 @@ pushed-are lies all old new f is h are =
     subst (λ (fs : List Filed). All (IsFileOf lies all) fs) (sym is)
     (All-append (IsFileOf lies all) old (f ∷ []) are (All-cons (IsFileOf lies all) f [] h (All-nil (IsFileOf lies all))))
 
-pub moved-filed : (lies : Bool) (width : ℕ) (all : List Marked) (near : List Bool) (old new : List Filed) → IsPermutation old new → AreFiled lies width all near old → AreFiled lies width all near new
-moved-filed lies width all near old new moved h = record {
+pub moved-filed : (lies : Bool) (bits : ℕ) (all : List Marked) (near : List Bool) (old new : List Filed) → IsPermutation old new → AreFiled lies bits all near old → AreFiled lies bits all near new
+moved-filed lies bits all near old new moved h = record {
   are = All-permutation (IsFileOf lies all) old new moved h.are;
   each = λ i below is c after before. Contains-permutation old new (filed_at c (extent_of lies i (get_or all i nothing).edge)) moved (h.each i below is c after before);
 }
@@ -257,13 +257,13 @@ in-column all meetings fs c x y p q all' other =
     (ap (λ (f : Filed). f.extent.index) pis) (ap (λ (f : Filed). f.extent.index) qis)
     (ap (λ (f : Filed). f.column) pis ∙ sym (ap (λ (f : Filed). f.column) qis)) all' other (order p.0 q.0)
 
-both-filed : (lies : Bool) (width : ℕ) (all : List Marked) (meetings : List Meeting) (fs : List Filed) (i j : ℕ) (b : Bool) → IsFiled width (extent_of lies i (get_or all i nothing).edge) fs → IsFiled width (extent_of lies j (get_or all j nothing).edge) fs → ComparedBelow all meetings fs (length fs) → i < length all → j < length all → i ≢ j → touches (extent_of lies i (get_or all i nothing).edge).across (extent_of lies j (get_or all j nothing).edge).across ≡ b → IsListed all meetings i j
-both-filed lies width all meetings fs i j true first second all' iin jin other h =
+both-filed : (lies : Bool) (bits : ℕ) (all : List Marked) (meetings : List Meeting) (fs : List Filed) (i j : ℕ) (b : Bool) → IsFiled bits (extent_of lies i (get_or all i nothing).edge) fs → IsFiled bits (extent_of lies j (get_or all j nothing).edge) fs → ComparedBelow all meetings fs (length fs) → i < length all → j < length all → i ≢ j → touches (extent_of lies i (get_or all i nothing).edge).across (extent_of lies j (get_or all j nothing).edge).across ≡ b → IsListed all meetings i j
+both-filed lies bits all meetings fs i j true first second all' iin jin other h =
     let e = (get_or all i nothing).edge in
     let f = (get_or all j nothing).edge in
-    let c = common width lies i j e f h in
+    let c = common bits lies i j e f h in
     in-column all meetings fs c.at (extent_of lies i e) (extent_of lies j f) (first c.at c.after_first c.before_first) (second c.at c.after_second c.before_second) all' other
-both-filed lies width all meetings fs i j false first second all' iin jin other h =
+both-filed lies bits all meetings fs i j false first second all' iin jin other h =
     (across-compared lies all meetings (extent_of lies i (get_or all i nothing).edge) (extent_of lies j (get_or all j nothing).edge) (record { within = iin; is = refl }) (record { within = jin; is = refl }) h).forth
 
 -- an edge that is far from all new ones
@@ -287,18 +287,18 @@ far-listed-back all news meetings i j true settled far iin jin is =
     none-apart e f i meetings (apart-turned f e (far.apart i iin is))
 far-listed-back all news meetings i j false settled far iin jin is = λ p h. inr (settled.at_ends i j iin jin is far.old p h)
 
-listed-by : (lies : Bool) (width : ℕ) (all : List Marked) (news near : List Bool) (meetings : List Meeting) (fs : List Filed) (i j : ℕ) (a b : Bool) → AreSettled all news → AreNear all news near → AreFiled lies width all near fs → ComparedBelow all meetings fs (length fs) → i < length all → j < length all → i ≢ j → get_or near i false ≡ a → get_or near j false ≡ b → IsListed all meetings i j
-listed-by lies width all news near meetings fs i j true true settled told files all' iin jin other isa isb =
-    both-filed lies width all meetings fs i j (touches (extent_of lies i (get_or all i nothing).edge).across (extent_of lies j (get_or all j nothing).edge).across) (files.each i iin isa) (files.each j jin isb) all' iin jin other refl
-listed-by lies width all news near meetings fs i j false b settled told files all' iin jin other isa isb =
+listed-by : (lies : Bool) (bits : ℕ) (all : List Marked) (news near : List Bool) (meetings : List Meeting) (fs : List Filed) (i j : ℕ) (a b : Bool) → AreSettled all news → AreNear all news near → AreFiled lies bits all near fs → ComparedBelow all meetings fs (length fs) → i < length all → j < length all → i ≢ j → get_or near i false ≡ a → get_or near j false ≡ b → IsListed all meetings i j
+listed-by lies bits all news near meetings fs i j true true settled told files all' iin jin other isa isb =
+    both-filed lies bits all meetings fs i j (touches (extent_of lies i (get_or all i nothing).edge).across (extent_of lies j (get_or all j nothing).edge).across) (files.each i iin isa) (files.each j jin isb) all' iin jin other refl
+listed-by lies bits all news near meetings fs i j false b settled told files all' iin jin other isa isb =
     far-listed all news meetings i j (get_or news j false) settled (told.far i iin isa) iin jin refl
-listed-by lies width all news near meetings fs i j true false settled told files all' iin jin other isa isb =
+listed-by lies bits all news near meetings fs i j true false settled told files all' iin jin other isa isb =
     far-listed-back all news meetings i j (get_or news i false) settled (told.far j jin isb) iin jin refl
 
 -- with all boxes compared that are near new edges, all edges are
-pub are-listed : (lies : Bool) (width : ℕ) (all : List Marked) (news near : List Bool) (meetings : List Meeting) (fs : List Filed) → AreSettled all news → AreNear all news near → AreFiled lies width all near fs → ComparedBelow all meetings fs (length fs) → AreListed all meetings
-are-listed lies width all news near meetings fs settled told files all' i j iin jin other =
-    listed-by lies width all news near meetings fs i j (get_or near i false) (get_or near j false) settled told files all' iin jin other refl refl
+pub are-listed : (lies : Bool) (bits : ℕ) (all : List Marked) (news near : List Bool) (meetings : List Meeting) (fs : List Filed) → AreSettled all news → AreNear all news near → AreFiled lies bits all near fs → ComparedBelow all meetings fs (length fs) → AreListed all meetings
+are-listed lies bits all news near meetings fs settled told files all' i j iin jin other =
+    listed-by lies bits all news near meetings fs i j (get_or near i false) (get_or near j false) settled told files all' iin jin other refl refl
 
 -- in another order they are the same meetings
 pub moved-listed : (all : List Marked) (old new : List Meeting) → IsPermutation old new → AreListed all old → AreListed all new

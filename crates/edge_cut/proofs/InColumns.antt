@@ -1,5 +1,5 @@
 -- Columns of a width, numbered from the least coordinate on, and the keys that order by them.
-use Rattle.std.proofs.Common.{◌≡◌, ◌<◌, ◌≤◌, ◌*◌, ◌/◌, ◌+◌, ℕ, zero, suc, ℤ, cond, ◌≤ℤ◌, Bool, true, false, ◌&&◌, inl, inr, ◌⊎◌, arith, refl}
+use Rattle.std.proofs.Common.{◌≡◌, ◌<◌, ◌≤◌, ◌*◌, ◌/◌, ◌^◌, ◌%◌, ◌+◌, ℕ, zero, suc, ℤ, cond, ◌≤ℤ◌, Bool, true, false, ◌&&◌, inl, inr, ◌⊎◌, arith, refl}
 use Rattle.std.specs.Prelude.{int_le}
 use Rattle.std.proofs.Math.Nat.{div-mul-le_self, div-zero}
 use Rattle.std.proofs.lemmas.Nat.{le-div}
@@ -26,7 +26,7 @@ div-rises a b zero le = omega (arith, div-zero a)
 div-rises a b (suc w) le = le-div (a / suc w) b (suc w) (omega arith) (le-then (a / suc w * suc w) a b (div-mul-le_self a (suc w)) le)
 
 pub column-rises : (w : ℕ) (x y : ℤ) → x ≤ℤ y → column_of w x ≤ column_of w y
-column-rises w x y h = div-rises (above_least x) (above_least y) w (above-rises x y h)
+column-rises w x y h = div-rises (above_least x) (above_least y) (2 ^ (w % 64)) (above-rises x y h)
 
 le-of : (x y : ℤ) → int_le x y ≡ true → x ≤ℤ y
 le-of x y h = grind (arith, ints)

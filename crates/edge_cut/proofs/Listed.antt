@@ -10,20 +10,8 @@ use Rattle.edge_cut.specs.Ordered.{IsEnd, MeetsAt, MeetsAtEnds}
 use Rattle.edge_cut.specs.Inner.Indices.{nothing}
 use Rattle.edge_cut.specs.Inner.Meetings.{meeting_at, IsOneAt, Lists, ListsBoth, AreCompared, AreMeetings, Compares}
 use Rattle.edge_cut.proofs.Ordered.{In, in-contained, contains-in}
+use Rattle.edge_cut.proofs.Read.{in-right, in-either}
 use Rattle.edge_cut.proofs.Compared.{any-default, in-front, in-last, keeps-then, still-at}
-
-in-right : {X : Type 0} (x : X) (xs ys : List X) → In x ys → In x (xs ++ ys)
-in-right x [] ys h = h
-in-right x (z ∷ xs) ys h = inr (in-right x xs ys h)
-
-one-later : {X : Type 0} (x z : X) (xs ys : List X) → In x xs ⊎ In x ys → In x (z ∷ xs) ⊎ In x ys
-one-later x z xs ys (inl there) = inl (inr there)
-one-later x z xs ys (inr there) = inr there
-
-in-either : {X : Type 0} (x : X) (xs ys : List X) → In x (xs ++ ys) → In x xs ⊎ In x ys
-in-either x [] ys h = inr h
-in-either x (z ∷ xs) ys (inl is) = inl (inl is)
-in-either x (z ∷ xs) ys (inr h) = one-later x z xs ys (in-either x xs ys h)
 
 -- no point, and an end
 

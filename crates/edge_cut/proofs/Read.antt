@@ -46,7 +46,7 @@ in-left x [] ys h = elim h [ ]
 in-left x (z ∷ xs) ys (inl is) = inl is
 in-left x (z ∷ xs) ys (inr h) = inr (in-left x xs ys h)
 
-in-right : {X : Type 0} (x : X) (xs ys : List X) → In x ys → In x (xs ++ ys)
+pub in-right : {X : Type 0} (x : X) (xs ys : List X) → In x ys → In x (xs ++ ys)
 in-right x [] ys h = h
 in-right x (z ∷ xs) ys h = inr (in-right x xs ys h)
 
@@ -54,7 +54,7 @@ one-later : {X : Type 0} (x z : X) (xs ys : List X) → In x xs ⊎ In x ys → 
 one-later x z xs ys (inl there) = inl (inr there)
 one-later x z xs ys (inr there) = inr there
 
-in-either : {X : Type 0} (x : X) (xs ys : List X) → In x (xs ++ ys) → In x xs ⊎ In x ys
+pub in-either : {X : Type 0} (x : X) (xs ys : List X) → In x (xs ++ ys) → In x xs ⊎ In x ys
 in-either x [] ys h = inr h
 in-either x (z ∷ xs) ys (inl is) = inl (inl is)
 in-either x (z ∷ xs) ys (inr h) = one-later x z xs ys (in-either x xs ys h)

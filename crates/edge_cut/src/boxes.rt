@@ -121,18 +121,6 @@ fn are_many(lengths: u64, range: u64) -> bool {
     lengths / MANY > range
 }
 
-// Four times the length of an edge across, so that most edges lie in one column.
-fn four_edges(lengths: u64, count: u64) -> u32 {
-    if count == 0 {
-        return 0;
-    }
-    let width = (lengths / count).saturating_mul(4);
-    if width > 4_294_967_295 {
-        return 4_294_967_295;
-    }
-    width as u32
-}
-
 /// The cells of a grid: two to these powers wide and high.
 #[derive(Clone, Copy)]
 pub(crate) struct Grid {
@@ -142,6 +130,14 @@ pub(crate) struct Grid {
 
 fn bits_in(n: u64) -> u32 {
     64 - n.leading_zeros()
+}
+
+// The power of two that is nearest to four times the length of an edge across, so that most edges lie in one column.
+fn four_edges(lengths: u64, count: u64) -> u32 {
+    let length = lengths / count.max(1);
+    bits_in((length.saturating_mul(17) / 3).max(1))
+        .saturating_sub(1)
+        .min(ONE_COLUMN)
 }
 
 // The power of two that is two to four times the length of a span.
@@ -157,13 +153,16 @@ pub(crate) fn grid_of(cover: Cover) -> Grid {
     }
 }
 
-/// How wide the columns are: 0, for one that holds all, unless many boxes overlap along the axis. Of time alone.
-pub(crate) fn column_width(cover: Cover, lies: bool) -> u32 {
+// Of this power there is one column.
+const ONE_COLUMN: u32 = 32;
+
+/// To which power of two wide the columns are: one holds all, unless many boxes overlap along the axis. Of time alone.
+pub(crate) fn column_bits(cover: Cover, lies: bool) -> u32 {
     if lies && are_many(cover.widths, length(cover.wide)) {
         return four_edges(cover.heights, cover.count);
     }
     if !lies && are_many(cover.heights, length(cover.high)) {
         return four_edges(cover.widths, cover.count);
     }
-    0
+    ONE_COLUMN
 }

@@ -1,7 +1,7 @@
 // The boxes round edges, filed in the columns that they touch. In a column they stand by their low ends, so that
 // those which can touch one of them stand in one stretch behind it.
 
-ghost use Rattle.std.specs.Prelude.{◌≡◌, ◌+◌, ◌*◌, ◌<◌, ◌≤◌, ◌/◌, ◌++◌, [], ◌∷◌, ℕ, Bool, true, List, length, OnOk, IfOk, nat_le};
+ghost use Rattle.std.specs.Prelude.{◌≡◌, ◌+◌, ◌*◌, ◌<◌, ◌≤◌, ◌/◌, ◌^◌, ◌%◌, ◌++◌, [], ◌∷◌, ℕ, Bool, true, List, length, OnOk, IfOk, nat_le};
 ghost use Rattle.std.specs.List.{All, Contains};
 ghost use Rattle.edge_cut.specs.declared.passes.Marked.{Marked};
 ghost use Rattle.edge_cut.specs.Inner.Heights.{height_of, width_of};
@@ -54,21 +54,18 @@ pub(crate) struct Coordinate {
     pub(crate) at: i32,
 }
 
-/// How far it stands above the least one.
-pub(crate) fn above_least(x: Coordinate) -> u32
+// How far it stands above the least one.
+fn above_least(x: Coordinate) -> u32
     ensures { result ≡ above_least x.at }
 {
     (x.at as i64 + 2_147_483_648).unsigned_abs() as u32
 }
 
-// The column of the coordinate; all are in the first one where the columns have no width.
-fn column_of(x: Coordinate, width: u32) -> u32
-    ensures { result ≡ column_of width x.at }
+/// The column of the coordinate, where columns are two to this power wide: a shift tells it.
+pub(crate) fn column_of(x: Coordinate, bits: u32) -> u32
+    ensures { result ≡ column_of bits x.at }
 {
-    if width == 0 {
-        return 0;
-    }
-    above_least(x) / width
+    (u64::from(above_least(x)) >> (bits % 64)) as u32
 }
 
 fn key_of(column: u32, x: Coordinate) -> u64
@@ -111,92 +108,92 @@ fn push_columns(
     Ok(())
 }
 
-fn first_column(extent: Extent, width: u32) -> u32
-    ensures { result ≡ first_column_of width extent }
+fn first_column(extent: Extent, bits: u32) -> u32
+    ensures { result ≡ first_column_of bits extent }
 {
     column_of(
         Coordinate {
             at: extent.across.low,
         },
-        width,
+        bits,
     )
 }
 
-fn last_column(extent: Extent, width: u32) -> u32
-    ensures { result ≡ last_column_of width extent }
+fn last_column(extent: Extent, bits: u32) -> u32
+    ensures { result ≡ last_column_of bits extent }
 {
     column_of(
         Coordinate {
             at: extent.across.high,
         },
-        width,
+        bits,
     )
 }
 
 // Files the box in all columns that it touches.
-fn file(files: &mut Vec<Filed>, extent: Extent, width: u32) -> Result<(), NoMemory>
+fn file(files: &mut Vec<Filed>, extent: Extent, bits: u32) -> Result<(), NoMemory>
     ensures kept { OnOk result (KeepsFiles files.old.items files.new.items) }
     ensures are { OnOk result ((lies : Bool) → (all : List Marked) → IsExtentOf lies all extent
         → All (IsFileOf lies all) files.old.items → All (IsFileOf lies all) files.new.items) }
-    ensures each { OnOk result (IsFiled width extent files.new.items) }
+    ensures each { OnOk result (IsFiled bits extent files.new.items) }
 {
-    let first = first_column(extent, width);
-    let last = last_column(extent, width);
+    let first = first_column(extent, bits);
+    let last = last_column(extent, bits);
     push_columns(files, extent, first, last)?;
     Ok(())
 }
 
 // Files the box, if it is that of an edge near a new one.
-fn file_near(files: &mut Vec<Filed>, extent: Extent, width: u32, near: bool) -> Result<(), NoMemory>
+fn file_near(files: &mut Vec<Filed>, extent: Extent, bits: u32, near: bool) -> Result<(), NoMemory>
     ensures kept { OnOk result (KeepsFiles files.old.items files.new.items) }
     ensures are { OnOk result ((lies : Bool) → (all : List Marked) → IsExtentOf lies all extent
         → All (IsFileOf lies all) files.old.items → All (IsFileOf lies all) files.new.items) }
-    ensures each { OnOk result (near ≡ true → IsFiled width extent files.new.items) }
+    ensures each { OnOk result (near ≡ true → IsFiled bits extent files.new.items) }
 {
     if !near {
         return Ok(());
     }
-    file(files, extent, width)
+    file(files, extent, bits)
 }
 
 fn files_of(
     alloc: Global,
     lies: bool,
-    width: u32,
+    bits: u32,
     all: &[Marked],
     near: &[bool],
 ) -> Result<Vec<Filed>, NoMemory>
     requires few { length all.now ≤ 100000 }
     requires same { length near.now ≡ length all.now }
-    ensures { IfOk result (λ files. AreFiled lies width all.now near.now files.items) }
+    ensures { IfOk result (λ files. AreFiled lies bits all.now near.now files.items) }
 {
     let mut files = Vec::with_capacity(alloc, all.len() * 2)?;
     for index in 0..all.len() {
         file_near(
             &mut files,
             extent_of(lies, index as u32, all[index].edge),
-            width,
+            bits,
             near[index],
         )?;
     }
     Ok(files)
 }
 
-/// The boxes of the edges that are near new ones, by their keys. `lies` says along which axis they are taken, and `width` how wide the columns
+/// The boxes of the edges that are near new ones, by their keys. `lies` says along which axis they are taken, and `bits` how wide the columns
 /// across it are.
 pub(crate) fn sorted(
     alloc: Global,
     lies: bool,
-    width: u32,
+    bits: u32,
     all: &[Marked],
     near: &[bool],
 ) -> Result<Vec<Filed>, NoMemory>
     requires few { length all.now ≤ 100000 }
     requires same { length near.now ≡ length all.now }
-    ensures filed { IfOk result (λ files. AreFiled lies width all.now near.now files.items) }
+    ensures filed { IfOk result (λ files. AreFiled lies bits all.now near.now files.items) }
     ensures rising { IfOk result (λ files. AreRising files.items) }
 {
-    let mut files = files_of(alloc, lies, width, all, near)?;
+    let mut files = files_of(alloc, lies, bits, all, near)?;
     files.sort_unstable_by_key(|f| f.key);
     Ok(files)
 }

@@ -3,22 +3,16 @@
 // the grid has no bounds: a mark too many costs time alone.
 
 ghost use Rattle.std.specs.Prelude.{◌≡◌, ◌<◌, ◌≤◌, length, true, false, IfOk};
-ghost use Rattle.edge_cut.specs.Inner.Marks.{cell_of, patch_of, place_of, KeepsMarks, RowIs, PatchIs, AreMarked, AreNear};
+ghost use Rattle.edge_cut.specs.Inner.Marks.{patch_of, place_of, KeepsMarks, RowIs, PatchIs, AreMarked, AreNear};
 
 use crate::boxes::{Grid, height, width};
-use crate::columns::{Coordinate, above_least};
+use crate::columns::{Coordinate, column_of};
 use crate::passes::Marked;
 use slice_base::{Edge, NoMemory};
 use std::alloc::Global;
 
 /// The marks of the grid: of 256 by 256 cells.
 const MARKS: usize = 65_536;
-
-fn cell_of(x: Coordinate, bits: u32) -> u32
-    ensures { result ≡ cell_of bits x.at }
-{
-    above_least(x) >> (bits % 32)
-}
 
 fn place_of(c: u32, d: u32) -> usize
     ensures exact { result ≡ place_of c d }
@@ -42,10 +36,10 @@ fn patch_of(grid: Grid, e: Edge) -> Patch
     let wide = width(e);
     let high = height(e);
     Patch {
-        left: cell_of(Coordinate { at: wide.low }, grid.wide),
-        right: cell_of(Coordinate { at: wide.high }, grid.wide),
-        low: cell_of(Coordinate { at: high.low }, grid.high),
-        high: cell_of(Coordinate { at: high.high }, grid.high),
+        left: column_of(Coordinate { at: wide.low }, grid.wide),
+        right: column_of(Coordinate { at: wide.high }, grid.wide),
+        low: column_of(Coordinate { at: high.low }, grid.high),
+        high: column_of(Coordinate { at: high.high }, grid.high),
     }
 }
 

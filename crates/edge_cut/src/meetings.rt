@@ -276,14 +276,14 @@ fn meetings_of(
 }
 
 /// All meetings of these edges with each other but for those at own ends, by the indices of the edges, some of them
-/// maybe more than once. `lies` says along which axis the boxes are taken, `width` how wide the columns across it are,
+/// maybe more than once. `lies` says along which axis the boxes are taken, `bits` how wide the columns across it are,
 /// and `grid` by which cells edges are known to be far from new ones: any are right, and some may be fast.
 pub(crate) fn find_meetings(
     alloc: Global,
     all: &[Marked],
     news: &[bool],
     lies: bool,
-    width: u32,
+    bits: u32,
     grid: Grid,
 ) -> Result<Vec<Meeting>, MeetingFault>
     requires few { length all.now ≤ 100000 }
@@ -293,7 +293,7 @@ pub(crate) fn find_meetings(
     ensures rising { IfOk result (λ meetings. ByIndex meetings.items) }
 {
     let near = near_of(alloc, grid, all, news)?;
-    let files = sorted(alloc, lies, width, all, near.as_slice())?;
+    let files = sorted(alloc, lies, bits, all, near.as_slice())?;
     let mut meetings = meetings_of(alloc, all, news, lies, files.as_slice())?;
     meetings.sort_unstable_by_key(|m| m.index);
     Ok(meetings)

@@ -1,5 +1,5 @@
 -- The boxes round edges, filed in the columns that they touch.
-use Rattle.std.specs.Prelude.{ℕ, ℤ, pos, ◌≡◌, ◌<◌, ◌≤◌, ◌+◌, ◌*◌, ◌/◌, ◌+ℤ◌, int_le, Bool, true, false, cond, List, length, slice_index_or}
+use Rattle.std.specs.Prelude.{ℕ, ℤ, pos, ◌≡◌, ◌<◌, ◌≤◌, ◌+◌, ◌*◌, ◌/◌, ◌^◌, ◌%◌, ◌+ℤ◌, int_le, Bool, true, false, cond, List, length, slice_index_or}
 use Rattle.std.specs.List.{All, Contains}
 use Rattle.std.specs.Int.RustNames.{unsigned_abs}
 use Rattle.slice_base.specs.declared.points.Edge.{Edge}
@@ -21,17 +21,17 @@ extent_of lies i e = record {
 abbrev pub above_least : ℤ → ℕ
 above_least x = cond (int_le (pos 0) (x +ℤ pos 2147483648)) (unsigned_abs (x +ℤ pos 2147483648)) 0
 
--- the column that holds the coordinate: the first one begins at the least, and holds all if the width is 0
+-- the column that holds the coordinate: the first one begins at the least, and each is two to this power wide
 abbrev pub column_of : ℕ → ℤ → ℕ
-column_of width x = above_least x / width
+column_of bits x = above_least x / 2 ^ (bits % 64)
 
 -- the first column that the box touches
 abbrev pub first_column_of : ℕ → Extent → ℕ
-first_column_of width x = column_of width x.across.low
+first_column_of bits x = column_of bits x.across.low
 
 -- the last one
 abbrev pub last_column_of : ℕ → Extent → ℕ
-last_column_of width x = column_of width x.across.high
+last_column_of bits x = column_of bits x.across.high
 
 -- orders by columns, and in one by coordinates
 abbrev pub key_of : ℕ → ℤ → ℕ
@@ -77,11 +77,11 @@ KeepsFiles old new = (f : Filed) → Contains old f → Contains new f
 
 -- the box is filed in each column that it touches
 abbrev pub IsFiled : ℕ → Extent → List Filed → Type 0
-IsFiled width x files =
-    (c : ℕ) → column_of width x.across.low ≤ c → c ≤ column_of width x.across.high → Contains files (filed_at c x)
+IsFiled bits x files =
+    (c : ℕ) → column_of bits x.across.low ≤ c → c ≤ column_of bits x.across.high → Contains files (filed_at c x)
 
 -- each edge that is told to be near a new one is filed in each column that its box touches
-pub record AreFiled (lies : Bool) (width : ℕ) (all : List Marked) (near : List Bool) (files : List Filed) : Type 0 where
+pub record AreFiled (lies : Bool) (bits : ℕ) (all : List Marked) (near : List Bool) (files : List Filed) : Type 0 where
   pub are : All (IsFileOf lies all) files
   pub each : (i : ℕ) → i < length all → slice_index_or near i false ≡ true
-      → IsFiled width (extent_of lies i (slice_index_or all i nothing).edge) files
+      → IsFiled bits (extent_of lies i (slice_index_or all i nothing).edge) files

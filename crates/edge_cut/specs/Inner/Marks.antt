@@ -1,5 +1,5 @@
 -- The cells of a grid that the boxes round new edges touch.
-use Rattle.std.specs.Prelude.{ℕ, ℤ, ◌≡◌, ◌<◌, ◌≤◌, ◌+◌, ◌*◌, ◌%◌, ◌^◌, ◌⊎◌, Bool, true, false, List, length, slice_index_or}
+use Rattle.std.specs.Prelude.{ℕ, ◌≡◌, ◌<◌, ◌≤◌, ◌+◌, ◌*◌, ◌%◌, ◌⊎◌, Bool, true, false, List, length, slice_index_or}
 use Rattle.slice_base.specs.declared.points.Edge.{Edge}
 use Rattle.clip_bands.specs.Indices.{touches}
 use Rattle.edge_cut.specs.declared.passes.Marked.{Marked}
@@ -9,17 +9,13 @@ use Rattle.edge_cut.specs.Inner.Heights.{height_of, width_of}
 use Rattle.edge_cut.specs.Inner.Indices.{nothing}
 use Rattle.edge_cut.specs.Inner.Columns.{column_of}
 
--- the cell that holds the coordinate: cells are two to this power wide, below 32
-abbrev pub cell_of : ℕ → ℤ → ℕ
-cell_of bits x = column_of (2 ^ (bits % 32)) x
-
--- the cells that the box round the edge touches
+-- the cells that the box round the edge touches: columns of the grid each way
 abbrev pub patch_of : Grid → Edge → Patch
 patch_of g e = record {
-  left = cell_of g.wide (width_of e).low;
-  right = cell_of g.wide (width_of e).high;
-  low = cell_of g.high (height_of e).low;
-  high = cell_of g.high (height_of e).high;
+  left = column_of g.wide (width_of e).low;
+  right = column_of g.wide (width_of e).high;
+  low = column_of g.high (height_of e).low;
+  high = column_of g.high (height_of e).high;
 }
 
 -- where the mark of the cell at c across and d up stands: cells 256 apart share one

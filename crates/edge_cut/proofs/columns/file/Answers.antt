@@ -7,4 +7,4 @@ pub returns-clause-each : goal.returns-clause-each
 returns-clause-each c k after before =
     c.in_ok-push_columns.ensures.each k
     (subst (λ (n : ℕ). n ≤ k) (sym c.first_column-first.ensures) after)
-    (subst (λ (n : ℕ). k < n + 1) (sym c.last_column-last.ensures) (le-next k (column_of c.args.width c.args.extent.across.high) before))
+    (subst (λ (n : ℕ). k < n + 1) (sym c.last_column-last.ensures) (le-next k (column_of c.args.bits c.args.extent.across.high) before))

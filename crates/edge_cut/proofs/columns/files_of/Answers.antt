@@ -18,7 +18,7 @@ loop-index-preserved c =
     let index = c.loop-index.index in
     let all = c.args.all.now in
     let lies = c.args.lies in
-    let width = c.args.width in
+    let bits = c.args.bits in
     let old = c.loop-index.files.items in
     let new = c.file_near.new.files.items in
     let h = c.loop-index.invariant in
@@ -26,8 +26,8 @@ loop-index-preserved c =
     let of : IsExtentOf lies all c.extent_of.result = subst (λ (x : Extent). IsExtentOf lies all x) (sym c.extent_of.ensures) (record { within = c.loop-index-test.true; is = refl }) in
     record {
       are = told.are lies all of h.are;
-      each = one-filed lies width all c.args.near.now old new index told.kept h.each
-          (λ near. subst (λ (x : Extent). IsFiled width x new) c.extent_of.ensures (told.each near));
+      each = one-filed lies bits all c.args.near.now old new index told.kept h.each
+          (λ near. subst (λ (x : Extent). IsFiled bits x new) c.extent_of.ensures (told.each near));
     }
 
 pub returns : goal.returns

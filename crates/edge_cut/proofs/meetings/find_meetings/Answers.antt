@@ -12,14 +12,14 @@ meetings_of-requires-clause-are c = subst (λ (fs : List Filed). All (IsFileOf c
 pub returns-clause-listed : goal.returns-clause-listed
 returns-clause-listed c =
     let lies = c.args.lies in
-    let width = c.args.width in
+    let bits = c.args.bits in
     let all = c.args.all.now in
     let news = c.args.news.now in
     let near = c.in_ok-near.near.items in
-    let by : AreFiled lies width all near c.in_ok-files.files.items = subst (λ (bs : List Bool). AreFiled lies width all bs c.in_ok-files.files.items) c.as_slice.ensures.value c.in_ok-files.ensures.filed in
-    let files = subst (λ (fs : List Filed). AreFiled lies width all near fs) (sym c.as_slice-2.ensures.value) by in
+    let by : AreFiled lies bits all near c.in_ok-files.files.items = subst (λ (bs : List Bool). AreFiled lies bits all bs c.in_ok-files.files.items) c.as_slice.ensures.value c.in_ok-files.ensures.filed in
+    let files = subst (λ (fs : List Filed). AreFiled lies bits all near fs) (sym c.as_slice-2.ensures.value) by in
     moved-listed all c.in_ok-meetings.meetings.items c.sort_unstable_by_key.new.self.items c.sort_unstable_by_key.ensures.permutation
-    (are-listed lies width all news near c.in_ok-meetings.meetings.items c.as_slice-2.result.now c.requires.settled c.in_ok-near.ensures files c.in_ok-meetings.ensures.compared)
+    (are-listed lies bits all news near c.in_ok-meetings.meetings.items c.as_slice-2.result.now c.requires.settled c.in_ok-near.ensures files c.in_ok-meetings.ensures.compared)
 
 pub returns-clause-are : goal.returns-clause-are
 returns-clause-are c = λ m h.
