@@ -70,14 +70,7 @@ pub(crate) fn both_at_ends(e: Marked, f: Marked) -> bool
     if are_level(sides) {
         return false;
     }
-    if are_on_one_side(sides) {
-        return true;
-    }
-    if share_end(e.edge, f.edge) {
-        return true;
-    }
-    let others = sides_of(f.edge, e.edge);
-    are_on_one_side(others)
+    are_on_one_side(sides) || share_end(e.edge, f.edge) || are_on_one_side(sides_of(f.edge, e.edge))
 }
 
 fn parts_of(s: Sides, t: Sides) -> Parts
