@@ -132,37 +132,36 @@ fn bits_in(n: u64) -> u32 {
     64 - n.leading_zeros()
 }
 
-// The power of two that is nearest to four times the length of an edge across, so that most edges lie in one column.
-fn four_edges(lengths: u64, count: u64) -> u32 {
-    let length = lengths / count.max(1);
-    bits_in((length.saturating_mul(17) / 3).max(1))
-        .saturating_sub(1)
-        .min(ONE_COLUMN)
-}
-
-// The power of two that is two to four times the length of a span.
-fn twice_to_four_times(lengths: u64, count: u64) -> u32 {
-    bits_in(lengths / count.max(1)).saturating_add(1).min(31)
+// The power of two that is one to two times the length of a span.
+fn length_bits(lengths: u64, count: u64) -> u32 {
+    bits_in(lengths / count.max(1))
 }
 
 /// The grid whose cells are two to four times the size of an edge. Of time alone.
 pub(crate) fn grid_of(cover: Cover) -> Grid {
     Grid {
-        wide: twice_to_four_times(cover.widths, cover.count),
-        high: twice_to_four_times(cover.heights, cover.count),
+        wide: length_bits(cover.widths, cover.count).saturating_add(1),
+        high: length_bits(cover.heights, cover.count).saturating_add(1),
     }
 }
 
 // Of this power there is one column.
 const ONE_COLUMN: u32 = 32;
 
+// Four to eight times the length of an edge across, so that most edges lie in one column.
+fn across_bits(lengths: u64, count: u64) -> u32 {
+    length_bits(lengths, count)
+        .saturating_add(2)
+        .min(ONE_COLUMN)
+}
+
 /// To which power of two wide the columns are: one holds all, unless many boxes overlap along the axis. Of time alone.
 pub(crate) fn column_bits(cover: Cover, lies: bool) -> u32 {
     if lies && are_many(cover.widths, length(cover.wide)) {
-        return four_edges(cover.heights, cover.count);
+        return across_bits(cover.heights, cover.count);
     }
     if !lies && are_many(cover.heights, length(cover.high)) {
-        return four_edges(cover.widths, cover.count);
+        return across_bits(cover.widths, cover.count);
     }
     ONE_COLUMN
 }

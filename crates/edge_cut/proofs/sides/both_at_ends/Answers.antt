@@ -10,8 +10,8 @@ returns-then-share_end-clause-forth c h =
     let s = c.sides_of-sides.result in
     let other = level-not s c.are_level.result c.are_level.ensures c.if-are_level.false in
     elim c.if-are_on_one_side.branch [
-      then-are_on_one_side w ↦ one-side e f s c.are_on_one_side.result c.sides_of-sides.ensures c.are_on_one_side.ensures w.if-are_on_one_side.true
-    | else-are_on_one_side w ↦ shared-end e f s w.share_end.result c.sides_of-sides.ensures other w.share_end.ensures (sym w.value-is ∙ h)
+      | then-are_on_one_side w ↦ one-side e f s c.are_on_one_side.result c.sides_of-sides.ensures c.are_on_one_side.ensures w.if-are_on_one_side.true
+      | else-are_on_one_side w ↦ shared-end e f s w.share_end.result c.sides_of-sides.ensures other w.share_end.ensures (sym w.value-is ∙ h)
     ]
 
 pub returns-then-share_end-clause-back : goal.returns-then-share_end-clause-back
@@ -21,8 +21,8 @@ returns-then-share_end-clause-back c h =
     let s = c.sides_of-sides.result in
     let other = level-not s c.are_level.result c.are_level.ensures c.if-are_level.false in
     elim c.if-are_on_one_side.branch [
-      then-are_on_one_side w ↦ one-side-back e f s c.are_on_one_side.result c.sides_of-sides.ensures other c.are_on_one_side.ensures w.if-are_on_one_side.true
-    | else-are_on_one_side w ↦ shared-end-back e f s w.share_end.result c.sides_of-sides.ensures other w.share_end.ensures (sym w.value-is ∙ h)
+      | then-are_on_one_side w ↦ one-side-back e f s c.are_on_one_side.result c.sides_of-sides.ensures other c.are_on_one_side.ensures w.if-are_on_one_side.true
+      | else-are_on_one_side w ↦ shared-end-back e f s w.share_end.result c.sides_of-sides.ensures other w.share_end.ensures (sym w.value-is ∙ h)
     ]
 
 pub returns-else-share_end-clause-forth : goal.returns-else-share_end-clause-forth
