@@ -121,7 +121,7 @@ fn are_many(lengths: u64, range: u64) -> bool {
     lengths / MANY > range
 }
 
-/// The cells of a grid: two to these powers wide and high.
+/// A grid whose cells are two to these powers wide and high.
 #[derive(Clone, Copy)]
 pub(crate) struct Grid {
     pub(crate) wide: u32,
@@ -155,7 +155,7 @@ fn across_bits(lengths: u64, count: u64) -> u32 {
         .min(ONE_COLUMN)
 }
 
-/// To which power of two wide the columns are: one holds all, unless many boxes overlap along the axis. Of time alone.
+/// Columns are two to this power wide: one holds all, unless many boxes overlap along the axis. Of time alone.
 pub(crate) fn column_bits(cover: Cover, lies: bool) -> u32 {
     if lies && are_many(cover.widths, length(cover.wide)) {
         return across_bits(cover.heights, cover.count);

@@ -1,6 +1,6 @@
-// Which edges may touch a new one. Of old edges the others needn't be compared. A grid has a mark in each cell that the
-// box round a new edge touches; an old edge is looked up there by its own box. Cells 256 apart share a mark, so that
-// the grid has no bounds: a mark too many costs time alone.
+// Which edges may touch a new one: the others needn't be compared, since edges that aren't new meet each other at ends
+// alone. A grid has a mark in each cell that the box round a new edge touches, and an old edge is looked up there by
+// its own box. Cells 256 apart share a mark, so that the grid has no bounds: a mark too many costs time alone.
 
 ghost use Rattle.std.specs.Prelude.{◌≡◌, ◌<◌, ◌≤◌, length, true, false, IfOk};
 ghost use Rattle.edge_cut.specs.Inner.Marks.{patch_of, place_of, KeepsMarks, RowIs, PatchIs, AreMarked, AreNear};
@@ -11,7 +11,7 @@ use crate::passes::Marked;
 use slice_base::{Edge, NoMemory};
 use std::alloc::Global;
 
-/// The marks of the grid: of 256 by 256 cells.
+// The marks of the grid: of 256 by 256 cells.
 const MARKS: usize = 65_536;
 
 fn place_of(c: u32, d: u32) -> usize
