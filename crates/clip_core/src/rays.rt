@@ -146,20 +146,49 @@ fn halved(rays: &[Ray], bounds: Bounds, key: u64) -> Bounds
     }
 }
 
+// How many rays are counted one by one, since a count has no branch that would have to be guessed.
+const FEW: usize = 32;
+
+// One more, or as many, without a branch.
+fn more_if(more: bool, count: usize) -> usize
+    requires { count < 2 ^ 63 }
+    ensures { result ≡ cond more (count + 1) count }
+{
+    count + more as usize
+}
+
+// The first ray from `i` up to `end` whose key isn't below this one: as many are below as stand before it.
+fn counted_at(rays: &[Ray], i: usize, end: usize, key: u64) -> usize
+    requires some { i ≤ end }
+    requires within { end ≤ length rays.now }
+    requires few { length rays.now ≤ 100000 }
+    requires rising { AreRising rays.now }
+    ensures later { i ≤ result }
+    ensures within { result ≤ end }
+    ensures below { (k : ℕ) (d : Ray) → i ≤ k → k < result → is_below key (slice_index_or rays.now k d) ≡ true }
+{
+    let mut to = i;
+    for k in i..end {
+        to = more_if(is_below(key, rays[k]), to);
+    }
+    to
+}
+
 // The first ray from `i` up to `end` whose key isn't below this one.
 fn first_at(rays: &[Ray], i: usize, end: usize, key: u64) -> usize
     requires some { i ≤ end }
     requires within { end ≤ length rays.now }
+    requires few { length rays.now ≤ 100000 }
     requires rising { AreRising rays.now }
     ensures later { i ≤ result }
     ensures within { result ≤ end }
     ensures below { (k : ℕ) (d : Ray) → i ≤ k → k < result → is_below key (slice_index_or rays.now k d) ≡ true }
 {
     let mut bounds = Bounds { low: i, high: end };
-    'halves: while bounds.low < bounds.high {
+    'halves: while bounds.high - bounds.low > FEW {
         bounds = halved(rays, bounds, key);
     }
-    bounds.low
+    counted_at(rays, bounds.low, bounds.high, key)
 }
 
 // Where the edge goes through the strip from its lower side to its upper one, it takes all rays to its left: raises
@@ -174,6 +203,7 @@ fn add_left(
 ) -> usize
     requires some { i ≤ end }
     requires within { end ≤ length rays.now }
+    requires few { length rays.now ≤ 100000 }
     requires enough { length raises.old.items ≡ length rays.now + 1 }
     requires in_strip { AreInStrip strip i end rays.now }
     requires strip_small { strip < 2147483648 }
