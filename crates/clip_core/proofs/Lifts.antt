@@ -3,12 +3,12 @@ use Rattle.std.proofs.Common.{◌≡◌, ◌<◌, ◌≤◌, ◌+◌, ℕ, zero,
 use Rattle.std.specs.Prelude.{unsigned_abs}
 use Rattle.std.specs.List.{All}
 use Rattle.std.proofs.lemmas.Int.{ints}
-use Rattle.std.proofs.lemmas.List.{length-set, get_or-set_other}
+use Rattle.std.proofs.lemmas.List.{length-set, get_or-set_other, get_or-set_same, set-get_or, set-set}
 use Rattle.std.proofs.lemmas.List.Elements.{All-head, All-tail}
 use Rattle.clip_core.specs.declared.windings.Windings.{Windings}
 use Rattle.clip_core.specs.Windings.{none, plus, less}
 use Rattle.clip_core.specs.Inner.Small.{AreSmall}
-use Rattle.clip_core.specs.Inner.Raises.{raised}
+use Rattle.clip_core.specs.Inner.Raises.{raised, raised_from, lowered_from}
 use Rattle.clip_core.proofs.Tallies.{both, plus_assoc, plus-none}
 use Rattle.clip_core.proofs.Shares.{plus-right}
 
@@ -74,6 +74,26 @@ raised-none (w ∷ ws) (suc k) h =
 -- of a stretch that was raised: before it
 pub raised-low : (ws : List Windings) (i j k : ℕ) (v w : Windings) → i < j → k ≤ i → raised (set (set ws i v) j w) k ≡ raised ws k
 raised-low ws i j k v w lt le = raised-before (set ws i v) j k w (omega arith) ∙ raised-before ws i k v le
+
+lower-int : (a b : ℤ) → (a +ℤ b) -ℤ b ≡ a
+lower-int a b = omega (arith, ints)
+
+lower-plus : (w s : Windings) → less (plus w s) s ≡ w
+lower-plus w s = both _ _ _ _ (lower-int w.first s.first) (lower-int w.second s.second)
+
+-- a stretch of more than one index
+pub raised-some : (ws : List Windings) (i j : ℕ) (s : Windings) → i < j → lowered_from (raised_from ws i s) j s ≡ set (set ws i (plus (get_or ws i none) s)) j (less (get_or ws j none) s)
+raised-some ws i j s lt =
+    ap (λ (u : Windings). set (raised_from ws i s) j (less u s)) (get_or-set_other ws i j (plus (get_or ws i none) s) none (λ q. omega arith))
+
+-- a stretch of none
+pub raised-same : (ws : List Windings) (i : ℕ) (s : Windings) → i < length ws → lowered_from (raised_from ws i s) i s ≡ ws
+raised-same ws i s below =
+    let v = plus (get_or ws i none) s in
+    set-set ws i v (less (get_or (set ws i v) i none) s)
+    ∙ (ap (λ (u : Windings). set ws i (less u s)) (get_or-set_same ws i v none below)
+    ∙ (ap (λ (u : Windings). set ws i u) (lower-plus (get_or ws i none) s)
+    ∙ set-get_or ws i none))
 
 -- in it
 pub raised-mid : (ws : List Windings) (i j k : ℕ) (s w : Windings) → i < length ws → i < k → k ≤ j → raised (set (set ws i (plus (get_or ws i none) s)) j w) k ≡ plus (raised ws k) s

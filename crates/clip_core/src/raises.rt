@@ -6,7 +6,7 @@ ghost use Rattle.std.specs.List.{All};
 ghost use Rattle.clip_core.specs.Windings.{none, plus, less};
 ghost use Rattle.clip_core.specs.Inner.Small.{AreSmall};
 ghost use Rattle.clip_core.specs.Inner.Rays.{IsSmallRay};
-ghost use Rattle.clip_core.specs.Inner.Raises.{raised, lifted, AllSmall, AreLifted};
+ghost use Rattle.clip_core.specs.Inner.Raises.{raised, raised_from, lowered_from, lifted, AllSmall, AreLifted};
 
 use crate::rays::Ray;
 use crate::windings::Windings;
@@ -33,18 +33,16 @@ fn less(m: Windings, n: Windings) -> Windings
     }
 }
 
-/// Raises the sums from `i` up to `end`, which is left out.
+/// Raises the sums from `i` up to `end`, which is left out; none where both are one.
 pub(crate) fn raise(raises: &mut Vec<Windings>, i: usize, end: usize, share: Windings)
     requires within { end < length raises.old.items }
-    requires some { i < end }
+    requires some { i ≤ end }
     requires share_small { AreSmall 1 share }
     requires small { All (AreSmall (2 ^ 61)) raises.old.items }
-    ensures { raises.new.items ≡ set (set raises.old.items i (plus (slice_index_or raises.old.items i none) share))
-        end (less (slice_index_or raises.old.items end none) share) }
+    ensures { raises.new.items ≡ lowered_from (raised_from raises.old.items i share) end share }
 {
-    let before = less(raises[end], share);
     raises[i] = plus(raises[i], share);
-    raises[end] = before;
+    raises[end] = less(raises[end], share);
 }
 
 fn lifted(by: Windings, r: Ray) -> Ray

@@ -120,9 +120,17 @@ struct Bounds {
     high: usize,
 }
 
-// The half of the bounds in which the first ray stands whose key isn't below this one.
+// As many, or none.
+fn many_if(counts: bool, many: usize) -> usize
+    ensures { result ≡ cond counts many 0 }
+{
+    counts as usize * many
+}
+
+// Half of the bounds, in which the first ray stands whose key isn't below this one. Either half is as long, so that how
+// often bounds are halved can be guessed.
 fn halved(rays: &[Ray], bounds: Bounds, key: u64) -> Bounds
-    requires some { bounds.low < bounds.high }
+    requires some { bounds.low + 2 ≤ bounds.high }
     requires within { bounds.high ≤ length rays.now }
     requires rising { AreRising rays.now }
     ensures later { bounds.low ≤ result.low }
@@ -132,34 +140,58 @@ fn halved(rays: &[Ray], bounds: Bounds, key: u64) -> Bounds
     ensures below { (k : ℕ) (d : Ray) → bounds.low ≤ k → k < result.low
         → is_below key (slice_index_or rays.now k d) ≡ true }
 {
-    let middle = bounds.low + (bounds.high - bounds.low) / 2;
-    if is_below(key, rays[middle]) {
-        Bounds {
-            low: middle + 1,
-            high: bounds.high,
-        }
-    } else {
-        Bounds {
-            low: bounds.low,
-            high: middle,
-        }
+    let half = (bounds.high - bounds.low) / 2;
+    let passed = many_if(is_below(key, rays[bounds.low + half - 1]), half);
+    Bounds {
+        low: bounds.low + passed,
+        high: bounds.high - half + passed,
     }
+}
+
+// So many rays are counted one by one, always as many: a count has no branch that would have to be guessed.
+const FEW: usize = 16;
+
+// One more, or as many, without a branch.
+fn more_if(more: bool, count: usize) -> usize
+    requires { count < 2 ^ 63 }
+    ensures { result ≡ cond more (count + 1) count }
+{
+    count + more as usize
+}
+
+// The first ray from `i` up to `end` whose key isn't below this one: as many are below as stand before it.
+fn counted_at(rays: &[Ray], i: usize, end: usize, key: u64) -> usize
+    requires some { i ≤ end }
+    requires within { end ≤ length rays.now }
+    requires few { length rays.now ≤ 100000 }
+    requires rising { AreRising rays.now }
+    ensures later { i ≤ result }
+    ensures within { result ≤ end }
+    ensures below { (k : ℕ) (d : Ray) → i ≤ k → k < result → is_below key (slice_index_or rays.now k d) ≡ true }
+{
+    let mut to = i;
+    for k in i..end {
+        to = more_if(is_below(key, rays[k]), to);
+    }
+    to
 }
 
 // The first ray from `i` up to `end` whose key isn't below this one.
 fn first_at(rays: &[Ray], i: usize, end: usize, key: u64) -> usize
     requires some { i ≤ end }
     requires within { end ≤ length rays.now }
+    requires few { length rays.now ≤ 100000 }
     requires rising { AreRising rays.now }
     ensures later { i ≤ result }
     ensures within { result ≤ end }
     ensures below { (k : ℕ) (d : Ray) → i ≤ k → k < result → is_below key (slice_index_or rays.now k d) ≡ true }
 {
     let mut bounds = Bounds { low: i, high: end };
-    'halves: while bounds.low < bounds.high {
+    'halves: while bounds.high - bounds.low > FEW {
         bounds = halved(rays, bounds, key);
     }
-    bounds.low
+    let few = (bounds.low + FEW).min(rays.len());
+    counted_at(rays, bounds.low, few, key).min(end)
 }
 
 // Where the edge goes through the strip from its lower side to its upper one, it takes all rays to its left: raises
@@ -174,6 +206,7 @@ fn add_left(
 ) -> usize
     requires some { i ≤ end }
     requires within { end ≤ length rays.now }
+    requires few { length rays.now ≤ 100000 }
     requires enough { length raises.old.items ≡ length rays.now + 1 }
     requires in_strip { AreInStrip strip i end rays.now }
     requires strip_small { strip < 2147483648 }
@@ -189,9 +222,6 @@ fn add_left(
         return i;
     }
     let to = first_at(rays, i, end, key_in(strip, m.breadth.left));
-    if to == i {
-        return i;
-    }
     raise(raises, i, to, m.share);
     to
 }

@@ -1,5 +1,5 @@
-// Edges as they are tried against midpoints and boxes round them: what a trial needs of an edge is computed once, and a
-// trial has no branches, since what comes of it is hard to guess. Heights and places across are doubled.
+// Edges as they are tried against midpoints: what a trial needs of an edge is computed once, and a trial has no branches,
+// since what comes of it is hard to guess. Heights and places across are doubled.
 
 ghost use Rattle.std.specs.Prelude.{◌≡◌, ◌≤◌, ◌^◌, ◌&&◌, pos, ◌+ℤ◌, ◌-ℤ◌, ◌*ℤ◌, int_lt, int_le};
 ghost use Rattle.std.specs.Int.RustNames.{unsigned_abs};

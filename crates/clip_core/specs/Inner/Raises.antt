@@ -1,11 +1,11 @@
 -- Sums that are raised from an index on.
-use Rattle.std.specs.Prelude.{ℕ, zero, suc, ◌≡◌, ◌+◌, ◌≤◌, ◌<◌, List, [], ◌∷◌, length, slice_index_or}
+use Rattle.std.specs.Prelude.{ℕ, zero, suc, ◌≡◌, ◌+◌, ◌≤◌, ◌<◌, List, [], ◌∷◌, length, set, slice_index_or}
 use Rattle.std.specs.List.{All}
 use Rattle.edge_cut.specs.declared.passes.Marked.{Marked}
 use Rattle.clip_core.specs.declared.bundles.Bundle.{Bundle}
 use Rattle.clip_core.specs.declared.windings.Windings.{Windings}
 use Rattle.clip_core.specs.declared.rays.Ray.{Ray}
-use Rattle.clip_core.specs.Windings.{none, plus}
+use Rattle.clip_core.specs.Windings.{none, plus, less}
 use Rattle.clip_core.specs.Inner.Small.{AreSmall}
 use Rattle.clip_core.specs.Inner.Rays.{ray_with, IsSmallRay, IsFull}
 
@@ -14,6 +14,14 @@ abbrev pub raised : List Windings → ℕ → Windings
 raised [] k = none
 raised (w ∷ ws) zero = none
 raised (w ∷ ws) (suc k) = plus w (raised ws k)
+
+-- the sums from an index on greater by so much
+abbrev pub raised_from : List Windings → ℕ → Windings → List Windings
+raised_from ws i w = set ws i (plus (slice_index_or ws i none) w)
+
+-- the sums from an index on less by so much
+abbrev pub lowered_from : List Windings → ℕ → Windings → List Windings
+lowered_from ws i w = set ws i (less (slice_index_or ws i none) w)
 
 -- the ray with a greater sum
 abbrev pub lifted : Windings → Ray → Ray
